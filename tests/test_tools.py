@@ -565,7 +565,7 @@ class CheckOver(unittest.TestCase):
         return done.stderr
 
     def test_libraries_that_are_missing(self) -> None:
-        self.assertIn("clone has no library of vault_model, lock_modes: run rt ci", self.said("clone", "lock_queue", status=2))
+        self.assertIn("clone has no library of vault_state, lock_modes: run rt ci", self.said("clone", "lock_queue", status=2))
 
     def test_a_library_of_this_tree(self) -> None:
         library = self.folder / "crates" / "lock_modes" / "out" / "rlib" / "lock_modes.rlib"
@@ -573,7 +573,7 @@ class CheckOver(unittest.TestCase):
         library.touch()
         said = self.said("clone", "lock_queue", status=2)
         self.assertIn("of this tree: lock_modes\n", said)
-        self.assertIn("clone has no library of vault_model: run rt ci", said)
+        self.assertIn("clone has no library of vault_state: run rt ci", said)
 
     def test_other_words(self) -> None:
         self.assertIn("names no crate nothing", self.said("clone", "nothing", status=1))
@@ -582,7 +582,7 @@ class CheckOver(unittest.TestCase):
     def test_plants(self) -> None:
         (self.folder / "tools").mkdir()
         shutil.copy(TOP / "tools" / "check-over", self.folder / "tools")
-        self.assertIn("clone has no library of vault_model, lock_modes", self.said("clone", "lock_queue", status=2, tool="plant-over"))
+        self.assertIn("clone has no library of vault_state, lock_modes", self.said("clone", "lock_queue", status=2, tool="plant-over"))
         self.assertIn("usage", self.said("clone", status=1, tool="plant-over"))
 
     def test_edits_together(self) -> None:

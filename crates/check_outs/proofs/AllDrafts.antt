@@ -4,9 +4,9 @@ use Rattle.std.specs.List.{AllByRecursion}
 use Rattle.std.specs.Option.{option_map_or}
 use Rattle.std.proofs.Common.{arith, ap, sym, subst, cond, ◌∙◌, append-nil, append_assoc}
 use Rattle.std.proofs.lemmas.Bool.Decides.{nat_tests}
-use Rattle.vault_model.specs.Shelf.{Draft}
-use Rattle.vault_model.specs.Drafts.{SavedDraft, comes_before, with_draft, drafts_of, without_drafts, saved_by}
-use Rattle.vault_model.proofs.Overlaps.{eq_from}
+use Rattle.vault_state.specs.Shelf.{Draft}
+use Rattle.vault_state.specs.Drafts.{SavedDraft, comes_before, with_draft, drafts_of, without_drafts, saved_by}
+use Rattle.vault_state.proofs.Overlaps.{eq_from}
 use Rattle.check_outs.specs.CheckOuts.{with_own}
 use Rattle.check_outs.specs.declared.any.AnyCheckOut.{AnyCheckOut}
 use Rattle.check_outs.specs.declared.any.AnyCheckOut.TheVariants.{Waiting, Held}

@@ -9,8 +9,8 @@ use Rattle.std.proofs.lemmas.List.{get_or_default}
 use Rattle.std.proofs.lemmas.List.Elements.{All-filter, All-from_recursion, recursion_from_All}
 use Rattle.std.proofs.lemmas.List.Sorted.{IsNonDecreasingBy-from_default}
 use Rattle.std.proofs.lemmas.Bool.Decides.{nat_tests}
-use Rattle.vault_model.specs.Shelf.{Draft}
-use Rattle.vault_model.proofs.Lists.{filter_passes}
+use Rattle.vault_state.specs.Shelf.{Draft}
+use Rattle.vault_state.proofs.Lists.{filter_passes}
 use Rattle.check_outs.specs.CheckOuts.{IsRising, with_own}
 
 -- a test that holds up to an index, and not from there on, cuts the list there

@@ -8,14 +8,14 @@ use Rattle.std.proofs.lemmas.Option.{get_or_from_slice_get}
 use Rattle.std.proofs.lemmas.Bool.Decides.{nat_tests}
 use Rattle.std.proofs.lemmas.List.Sums.{sum_by-cons, prefix_len-le-length}
 use Rattle.std.proofs.lemmas.List.Elements.{All-nil, All-cons, All-head, All-tail}
-use Rattle.vault_model.specs.declared.claims.Claim.{Claim}
-use Rattle.vault_model.specs.declared.ids.ClaimId.{ClaimId}
-use Rattle.vault_model.specs.declared.ids.ClaimId.TheVariants.{Long}
-use Rattle.vault_model.specs.Claims.{same_id, claim_of}
-use Rattle.vault_model.specs.Shelf.{Draft, drafts_weight}
-use Rattle.vault_model.specs.Drafts.{saved_weight}
-use Rattle.vault_model.proofs.Overlaps.{eq_from, eq_itself}
-use Rattle.vault_model.proofs.Stays.{ids}
+use Rattle.vault_state.specs.declared.claims.Claim.{Claim}
+use Rattle.vault_state.specs.declared.ids.ClaimId.{ClaimId}
+use Rattle.vault_state.specs.declared.ids.ClaimId.TheVariants.{Long}
+use Rattle.vault_state.specs.Claims.{same_id, claim_of}
+use Rattle.vault_state.specs.Shelf.{Draft, drafts_weight}
+use Rattle.vault_state.specs.Drafts.{saved_weight}
+use Rattle.vault_state.proofs.Overlaps.{eq_from, eq_itself}
+use Rattle.vault_state.proofs.Stays.{ids}
 use Rattle.check_outs.specs.declared.any.AnyCheckOut.{AnyCheckOut}
 use Rattle.check_outs.specs.Typed.{number_of, own_drafts, saved, check_out_of, drafts_at, IsAscending}
 use Rattle.check_outs.specs.Parts.{number_in, opened, put_in, opened_all}

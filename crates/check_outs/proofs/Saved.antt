@@ -6,8 +6,8 @@ use Rattle.std.proofs.Common.{arith, ap, sym, subst, cond, ◌∙◌}
 use Rattle.std.proofs.lemmas.List.Folds.{find_at}
 use Rattle.std.proofs.lemmas.Option.{slice_get_past, slice_get-get_or}
 use Rattle.std.proofs.lemmas.Bool.Decides.{nat_tests}
-use Rattle.vault_model.specs.Shelf.{Draft}
-use Rattle.vault_model.proofs.Overlaps.{eq_from}
+use Rattle.vault_state.specs.Shelf.{Draft}
+use Rattle.vault_state.proofs.Overlaps.{eq_from}
 use Rattle.check_outs.specs.CheckOuts.{CheckOutSeen, with_own}
 use Rattle.check_outs.specs.declared.any.AnyCheckOut.{AnyCheckOut}
 use Rattle.check_outs.specs.declared.any.AnyCheckOut.TheVariants.{Held}

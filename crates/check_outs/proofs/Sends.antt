@@ -5,7 +5,7 @@ use denote.Builtin.{u8}
 use denote.Struct.Declared.{shape}
 use denote.Enum.Declared.{shape as enum_shape}
 use Rattle.std.specs.declared.alloc.Allocator.{Ghosts}
-use Rattle.vault_model.proofs.Sends.{fields, listing_send, draft_send}
+use Rattle.vault_state.proofs.Sends.{fields, listing_send, draft_send}
 use Rattle.check_outs.specs.contracts.check_out.CheckOut as CheckOut
 use Rattle.check_outs.specs.contracts.check_out.Held as Held
 use Rattle.check_outs.specs.contracts.check_out.Held.TheInside as HeldInside

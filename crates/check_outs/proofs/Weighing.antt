@@ -5,13 +5,13 @@ use Rattle.std.proofs.Common.{arith, ap, sym, cond, ◌∙◌, length-append, ge
 use Rattle.std.proofs.lemmas.List.{at_drop_all, at_drop_more}
 use Rattle.std.proofs.lemmas.List.Sums.{sum_by-cons, length-filter}
 use Rattle.std.proofs.lemmas.Bool.Decides.{nat_tests}
-use Rattle.vault_model.specs.Shelf.{Draft, content_weight, drafts_weight, weight, draft_at}
-use Rattle.vault_model.specs.Drafts.{SavedDraft, with_draft, drafts_of, saved_weight, saved_by}
-use Rattle.vault_model.specs.Limits.{longest_content, most_drafts, most_weight, extra_weight}
-use Rattle.vault_model.specs.Vault.{Vault, new_vault, weight_of}
+use Rattle.vault_state.specs.Shelf.{Draft, content_weight, drafts_weight, weight, draft_at}
+use Rattle.vault_state.specs.Drafts.{SavedDraft, with_draft, drafts_of, saved_weight, saved_by}
+use Rattle.vault_state.specs.Limits.{longest_content, most_drafts, most_weight, extra_weight}
+use Rattle.vault_state.specs.Vault.{Vault, new_vault, weight_of}
 use Rattle.vault_model.specs.Step.{may_save}
-use Rattle.vault_model.proofs.Shelves.{true_le}
-use Rattle.vault_model.proofs.Overlaps.{and_both}
+use Rattle.vault_state.proofs.Shelves.{true_le}
+use Rattle.vault_state.proofs.Overlaps.{and_both}
 use Rattle.check_outs.specs.CheckOuts.{with_own, beside}
 use Rattle.check_outs.specs.declared.any.AnyCheckOut.{AnyCheckOut}
 use Rattle.check_outs.specs.declared.any.AnyCheckOut.TheVariants.{Waiting, Held}

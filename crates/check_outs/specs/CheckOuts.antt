@@ -1,7 +1,7 @@
 -- Check-outs with their drafts. This project's own.
 use Rattle.std.specs.Prelude.{◌≡◌, ℕ, ◌==◌, true, not, nat_lt, List, [], ◌∷◌, ◌++◌, filter}
 use Rattle.std.specs.List.{AllByRecursion}
-use Rattle.vault_model.specs.Shelf.{Draft}
+use Rattle.vault_state.specs.Shelf.{Draft}
 
 -- a check-out as contracts see it: the number of its claim, and the state that goes with its standing
 pub record CheckOutSeen (State : Type 0) : Type 0 where

@@ -1,16 +1,16 @@
 -- The parts of a durable vault, as a file keeps them. This project's own.
 use Rattle.std.specs.Prelude.{◌≡◌, ◌≢◌, ℕ, ◌+◌, ◌≤◌, nat_lt, true, if◌then◌else◌, List, [], ◌∷◌, ◌++◌, length, map, sum_by, None, All}
-use Rattle.vault_model.specs.declared.place.Place.{Place}
-use Rattle.vault_model.specs.declared.claims.Claim.{Claim}
-use Rattle.vault_model.specs.declared.claims.Item.{Item}
-use Rattle.vault_model.specs.declared.ids.ClaimId.{ClaimId}
-use Rattle.vault_model.specs.declared.ids.ClaimId.TheVariants.{Long, Short}
-use Rattle.vault_model.specs.Limits.{longest_content, most_drafts, most_weight}
-use Rattle.vault_model.specs.Tree.{is_part}
-use Rattle.vault_model.specs.Claims.{blocker, change_set}
-use Rattle.vault_model.specs.Shelf.{Draft, weight, drafts_weight}
-use Rattle.vault_model.specs.Drafts.{SavedDraft, drafts_of}
-use Rattle.vault_model.specs.Vault.{Vault, IsVault, AreThere, AreVersions}
+use Rattle.vault_state.specs.declared.place.Place.{Place}
+use Rattle.vault_state.specs.declared.claims.Claim.{Claim}
+use Rattle.vault_state.specs.declared.claims.Item.{Item}
+use Rattle.vault_state.specs.declared.ids.ClaimId.{ClaimId}
+use Rattle.vault_state.specs.declared.ids.ClaimId.TheVariants.{Long, Short}
+use Rattle.vault_state.specs.Limits.{longest_content, most_drafts, most_weight}
+use Rattle.vault_state.specs.Tree.{is_part}
+use Rattle.vault_state.specs.Claims.{blocker, change_set}
+use Rattle.vault_state.specs.Shelf.{Draft, weight, drafts_weight}
+use Rattle.vault_state.specs.Drafts.{SavedDraft, drafts_of}
+use Rattle.vault_state.specs.Vault.{Vault, IsVault, AreThere, AreVersions}
 use Rattle.vault_model.specs.After.{IsDurable}
 use Rattle.check_outs.specs.CheckOuts.{IsRising}
 use Rattle.check_outs.specs.Typed.{number_of}

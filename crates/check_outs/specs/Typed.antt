@@ -2,14 +2,14 @@
 use Rattle.std.specs.Prelude.{◌≡◌, ℕ, ◌==◌, nat_lt, Bool, true, false, not, ◌||◌, if◌then◌else◌, List, [], ◌∷◌, ◌++◌, length, map, filter, find, Option, None, Some, is_some, All}
 use Rattle.std.specs.List.{AllByRecursion}
 use Rattle.std.specs.Option.{option_map_or}
-use Rattle.vault_model.specs.declared.place.Place.{Place}
-use Rattle.vault_model.specs.declared.claims.Claim.{Claim}
-use Rattle.vault_model.specs.declared.claims.Standing.{Standing}
-use Rattle.vault_model.specs.declared.claims.Standing.TheVariants as standings
-use Rattle.vault_model.specs.declared.ids.ClaimId.TheVariants.{Long}
-use Rattle.vault_model.specs.Claims.{claim_of, standing_of}
-use Rattle.vault_model.specs.Shelf.{Draft}
-use Rattle.vault_model.specs.Drafts.{SavedDraft, saved_by}
+use Rattle.vault_state.specs.declared.place.Place.{Place}
+use Rattle.vault_state.specs.declared.claims.Claim.{Claim}
+use Rattle.vault_state.specs.declared.claims.Standing.{Standing}
+use Rattle.vault_state.specs.declared.claims.Standing.TheVariants as standings
+use Rattle.vault_state.specs.declared.ids.ClaimId.TheVariants.{Long}
+use Rattle.vault_state.specs.Claims.{claim_of, standing_of}
+use Rattle.vault_state.specs.Shelf.{Draft}
+use Rattle.vault_state.specs.Drafts.{SavedDraft, saved_by}
 use Rattle.check_outs.specs.CheckOuts.{with_own}
 use Rattle.check_outs.specs.declared.any.AnyCheckOut.{AnyCheckOut}
 use Rattle.check_outs.specs.declared.any.AnyCheckOut.TheVariants.{Waiting, Held}

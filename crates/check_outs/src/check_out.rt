@@ -42,7 +42,7 @@ pub struct Held<A: Allocator = Global> {
 
 impl<A: Allocator> Model for Held<A> {
     ghost use Rattle.std.specs.Prelude.{List};
-    ghost use Rattle.vault_model.specs.Shelf.{Draft};
+    ghost use Rattle.vault_state.specs.Shelf.{Draft};
     ghost use Rattle.check_outs.specs.CheckOuts.{IsRising};
 
     ghost Value = { List Draft };

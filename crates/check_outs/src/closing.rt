@@ -1,7 +1,7 @@
 //! Closing a check-out: its drafts become new versions.
 ghost use Rattle.std.specs.Prelude.{◌≡◌, ◌<◌, ◌≤◌, true, length, insert, vec_len, vec_capacity, IfOk, IfErr, OnOk, OnErr};
-ghost use Rattle.vault_model.specs.Limits.{most_drafts};
-ghost use Rattle.vault_model.specs.Shelf.{is_shelvable, shelved_all};
+ghost use Rattle.vault_state.specs.Limits.{most_drafts};
+ghost use Rattle.vault_state.specs.Shelf.{is_shelvable, shelved_all};
 ghost use Rattle.check_outs.specs.Closed.{IsCloseRefusal};
 ghost use Rattle.check_outs.specs.Typed.{is_open, drafts_at, without_check_out, IsAscending};
 ghost use Rattle.check_outs.specs.declared.any.AnyCheckOut.TheVariants as typed;

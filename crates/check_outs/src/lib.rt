@@ -4,7 +4,7 @@
 //! check-outs changes as its definition says when one is put last, withdrawn, saved in or closed. Closing one makes all its drafts
 //! versions, or none (`close_at`). One more draft may be saved exactly if the limits hold with it (`may_save`). What replies say of
 //! items and of drafts is as defined (`at_paths`, `paths_of`, `content_at`). Out of memory, a call changes nothing.
-//! Stands on: vault_model, design_tree, part_versions. Must not know: which claims are granted, the line, sessions, commands.
+//! Stands on: vault_state, vault_model, design_tree, part_versions. Must not know: which claims are granted, the line, sessions, commands.
 //!
 //! Invariant, of `Held`: drafts are in order of rising place, at most one for each part.
 //!

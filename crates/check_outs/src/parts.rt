@@ -1,7 +1,7 @@
 //! Whether a vault may have these versions and drafts.
 ghost use Rattle.std.specs.Prelude.{◌≡◌, ◌+◌, ◌<◌, ◌↔◌, IsTrue, IfSome, IsNone};
-ghost use Rattle.vault_model.specs.Shelf.{drafts_weight};
-ghost use Rattle.vault_model.specs.Vault.{AreVersions};
+ghost use Rattle.vault_state.specs.Shelf.{drafts_weight};
+ghost use Rattle.vault_state.specs.Vault.{AreVersions};
 ghost use Rattle.check_outs.specs.CheckOuts.{IsRising};
 ghost use Rattle.check_outs.specs.Parts.{MayBe, AreLight};
 

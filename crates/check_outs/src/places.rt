@@ -1,11 +1,11 @@
 //! Items given by paths, and their places.
 ghost use Rattle.std.specs.Prelude.{◌≡◌, ◌+◌, ◌≤◌, ◌&&◌, ◌++◌, nat_le, length, IfSome};
-ghost use Rattle.vault_model.specs.Vault.{AreThere};
-ghost use Rattle.vault_model.specs.Claims.{is_change, change_set};
+ghost use Rattle.vault_state.specs.Vault.{AreThere};
+ghost use Rattle.vault_state.specs.Claims.{is_change, change_set};
 ghost use Rattle.vault_model.specs.After.{are_there};
-ghost use Rattle.vault_model.specs.Tree.{is_part};
+ghost use Rattle.vault_state.specs.Tree.{is_part};
 ghost use Rattle.vault_model.specs.Step.{placed};
-ghost use Rattle.vault_model.specs.Limits.{most_items};
+ghost use Rattle.vault_state.specs.Limits.{most_items};
 
 use design_tree::Tree;
 use std::alloc::Allocator;

@@ -1,11 +1,11 @@
 //! What replies say of a claim's items and of its drafts.
 ghost use Rattle.std.specs.Prelude.{◌≡◌, ◌≤◌, All, IfOk, map, length};
 ghost use Rattle.std.specs.Option.{option_copied};
-ghost use Rattle.vault_model.specs.Vault.{AreThere};
-ghost use Rattle.vault_model.specs.Tree.{path_of};
+ghost use Rattle.vault_state.specs.Vault.{AreThere};
+ghost use Rattle.vault_state.specs.Tree.{path_of};
 ghost use Rattle.vault_model.specs.Step.{at_path};
-ghost use Rattle.vault_model.specs.Shelf.{Draft};
-ghost use Rattle.vault_model.specs.Drafts.{content_at};
+ghost use Rattle.vault_state.specs.Shelf.{Draft};
+ghost use Rattle.vault_state.specs.Drafts.{content_at};
 
 use design_tree::Tree;
 use std::alloc::Allocator;

@@ -1,9 +1,9 @@
 //! Whether one more draft may be saved.
 ghost use Rattle.std.specs.Prelude.{◌≡◌, ℕ, ◌+◌, ◌≤◌, ◌==◌, true, not, count_by};
-ghost use Rattle.vault_model.specs.Limits.{most_weight};
-ghost use Rattle.vault_model.specs.Shelf.{Draft, weight, drafts_weight};
-ghost use Rattle.vault_model.specs.Drafts.{saved_weight, new_draft};
-ghost use Rattle.vault_model.specs.Vault.{new_vault};
+ghost use Rattle.vault_state.specs.Limits.{most_weight};
+ghost use Rattle.vault_state.specs.Shelf.{Draft, weight, drafts_weight};
+ghost use Rattle.vault_state.specs.Drafts.{saved_weight, new_draft};
+ghost use Rattle.vault_state.specs.Vault.{new_vault};
 ghost use Rattle.vault_model.specs.Step.{may_save};
 ghost use Rattle.check_outs.specs.CheckOuts.{beside};
 ghost use Rattle.check_outs.specs.Typed.{saved, is_open, drafts_at, IsAscending};

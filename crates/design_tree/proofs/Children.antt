@@ -9,9 +9,9 @@ use Rattle.std.proofs.lemmas.Bool.Decides.{nat_tests}
 use Rattle.std.proofs.lemmas.List.Elements.{All-filter}
 use Rattle.std.proofs.lemmas.List.Sums.{sum_by-cons}
 use Rattle.std.proofs.lemmas.List.FromFn.{length-range_with_len, get_or-range_with_len}
-use Rattle.vault_model.specs.declared.place.Place.{Place}
-use Rattle.vault_model.specs.Tree.{parent_of, is_child, child, children_of, children_count}
-use Rattle.vault_model.proofs.Walks.{Rises}
+use Rattle.vault_state.specs.declared.place.Place.{Place}
+use Rattle.vault_state.specs.Tree.{parent_of, is_child, child, children_of, children_count}
+use Rattle.vault_state.proofs.Walks.{Rises}
 use Rattle.design_tree.specs.Index.{has_name}
 
 -- the numbers of a parent's children, where the list's first place has this number

@@ -6,14 +6,14 @@ use Rattle.std.proofs.lemmas.Option.{get_or_from_slice_get}
 use Rattle.std.proofs.lemmas.List.{append-nil}
 use Rattle.std.proofs.lemmas.Bool.{cases_lt}
 use Rattle.std.proofs.lemmas.Bool.Decides.{nat_tests}
-use Rattle.vault_model.specs.declared.place.Place.{Place}
+use Rattle.vault_state.specs.declared.place.Place.{Place}
 use Rattle.std.proofs.Math.Seq.{map-set_same}
 use Rattle.std.proofs.lemmas.List.{map-append, map-set, get_or-map}
-use Rattle.vault_model.specs.Tree.{may_have, child, is_full, children_of}
-use Rattle.vault_model.proofs.Depths.{had}
-use Rattle.vault_model.proofs.Kept.{tree_new}
-use Rattle.vault_model.proofs.Walks.{Rises}
-use Rattle.vault_model.proofs.Growth.{slice_get-push_old, slice_get-push_new, IsTree-push}
+use Rattle.vault_state.specs.Tree.{may_have, child, is_full, children_of}
+use Rattle.vault_state.proofs.Depths.{had}
+use Rattle.vault_state.proofs.NewTree.{tree_new}
+use Rattle.vault_state.proofs.Walks.{Rises}
+use Rattle.vault_state.proofs.Growth.{slice_get-push_old, slice_get-push_new, IsTree-push}
 use Rattle.design_tree.specs.Index.{IsIndexed, IsSoundTree, with_child}
 use Rattle.design_tree.proofs.Children.{children_of-push, children_of-past}
 

@@ -3,7 +3,7 @@ use denote.RattleType.{RattleType}
 use denote.Param.Send.{IsSend, Frees, struct_send, recorded_send, view_send}
 use denote.Struct.Declared.{shape}
 use Rattle.std.specs.declared.alloc.Allocator.{Ghosts}
-use Rattle.vault_model.proofs.Sends.{fields, place_send}
+use Rattle.vault_state.proofs.Sends.{fields, place_send}
 use Rattle.design_tree.specs.contracts.tree.Tree as Tree
 use Rattle.design_tree.specs.contracts.tree.Tree.TheInside as TreeInside
 

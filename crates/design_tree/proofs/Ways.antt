@@ -3,10 +3,10 @@ use Rattle.std.specs.Prelude.{◌≡◌, ℕ, zero, suc, ◌≤◌, List, [], �
 use Rattle.std.proofs.Common.{sym, ap, ◌∙◌, arith}
 use Rattle.std.specs.Option.{option_map}
 use Rattle.std.proofs.lemmas.Option.{slice_get-get_or}
-use Rattle.vault_model.specs.declared.place.Place.{Place}
-use Rattle.vault_model.specs.Tree.{parent_of, path_of}
-use Rattle.vault_model.proofs.Walks.{Rises}
-use Rattle.vault_model.proofs.Ways.{path_of-step}
+use Rattle.vault_state.specs.declared.place.Place.{Place}
+use Rattle.vault_state.specs.Tree.{parent_of, path_of}
+use Rattle.vault_state.proofs.Walks.{Rises}
+use Rattle.vault_state.proofs.Ways.{path_of-step}
 
 -- a place's way is its parent's, and then its name; the place is read from the list
 pub path_of-next : (tree : List Place) (p r : ℕ) (x : Place) → Rises tree → p ≤ length tree → Some r ≡ parent_of tree p → x ≡ slice_index_or tree (p - 1) x → path_of tree p ≡ path_of tree r ++ x.name ∷ []

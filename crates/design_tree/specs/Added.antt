@@ -1,8 +1,8 @@
 -- Why a place is not made. This project's own.
 use Rattle.std.specs.Prelude.{ℕ, not, List, Option, None, Some, is_some, if◌then◌else◌}
-use Rattle.vault_model.specs.declared.place.Place.{Place}
-use Rattle.vault_model.specs.declared.place.Kind.{Kind}
-use Rattle.vault_model.specs.Tree.{may_have, child, is_full}
+use Rattle.vault_state.specs.declared.place.Place.{Place}
+use Rattle.vault_state.specs.declared.place.Kind.{Kind}
+use Rattle.vault_state.specs.Tree.{may_have, child, is_full}
 use Rattle.design_tree.specs.declared.tree.AddError.{AddError}
 use Rattle.design_tree.specs.declared.tree.AddError.TheVariants.{WrongKind, Exists, Limit, NoMemory}
 

@@ -2,8 +2,8 @@
 use Rattle.std.specs.Prelude.{◌≡◌, ℕ, ◌+◌, ◌≤◌, Bool, false, List, [], ◌∷◌, ◌++◌, length, Some, slice_get, slice_index_or, slice_set}
 use Rattle.std.specs.Option.{option_map_or}
 use Rattle.std.specs.Str.{bytes_eq}
-use Rattle.vault_model.specs.declared.place.Place.{Place}
-use Rattle.vault_model.specs.Tree.{name_of, children_of, IsTree}
+use Rattle.vault_state.specs.declared.place.Place.{Place}
+use Rattle.vault_state.specs.Tree.{name_of, children_of, IsTree}
 
 -- whether a place has this name
 abbrev pub has_name : List Place → List ℕ → ℕ → Bool

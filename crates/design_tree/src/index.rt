@@ -3,7 +3,7 @@ ghost use Rattle.std.specs.Prelude.{◌≡◌, ℕ, ◌+◌, ◌<◌, ◌≤◌,
 ghost use Rattle.design_tree.specs.Index.{with_child};
 
 use std::alloc::{AllocError, Allocator};
-use vault_model::PlaceId;
+use vault_state::PlaceId;
 
 /// Appends a new place to the list of its siblings, and an empty list for its own children to the
 /// lists. If memory is refused, all lists stay as they were.

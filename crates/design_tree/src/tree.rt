@@ -1,7 +1,7 @@
 //! The tree.
 ghost use Rattle.std.specs.Prelude.{◌≡◌, ℕ, suc, ◌+◌, ◌-◌, ◌<◌, ◌≤◌, true, false, None, List, [], ◌∷◌, ◌++◌, length, IfOk, IfErr, IfSome, OnOk, OnErr, All};
-ghost use Rattle.vault_model.specs.Tree.{new_place, parent_of, name_of, path_of, is_under, depth, is_part, kind_of, may_have, kind_under, may_nest_under, child, find_below, find_place, children_of, names_under, is_full, IsTree};
-ghost use Rattle.vault_model.specs.declared.place.Kind.TheVariants.{Assembly};
+ghost use Rattle.vault_state.specs.Tree.{new_place, parent_of, name_of, path_of, is_under, depth, is_part, kind_of, may_have, kind_under, may_nest_under, child, find_below, find_place, children_of, names_under, is_full, IsTree};
+ghost use Rattle.vault_state.specs.declared.place.Kind.TheVariants.{Assembly};
 ghost use Rattle.design_tree.specs.Added.{refusal, refusal_told};
 
 use crate::index::enter;
@@ -12,7 +12,7 @@ use crate::walk::{
 use std::alloc::{Allocator, Global};
 use std::marker::Model;
 use thiserror::Error;
-use vault_model::{Kind, Listing, MAX_CHILDREN, MAX_PLACES, Name, NoMemory, Path, Place, PlaceId};
+use vault_state::{Kind, Listing, MAX_CHILDREN, MAX_PLACES, Name, NoMemory, Path, Place, PlaceId};
 
 /// The places of a vault. Contracts see them as a list, without the library.
 #[derive(Drop)]
@@ -23,7 +23,7 @@ pub struct Tree<A: Allocator = Global> {
 
 impl<A: Allocator> Model for Tree<A> {
     ghost use Rattle.std.specs.Prelude.{List, map};
-    ghost use Rattle.vault_model.specs.declared.place.Place.{Place};
+    ghost use Rattle.vault_state.specs.declared.place.Place.{Place};
     ghost use Rattle.design_tree.specs.Index.{IsSoundTree};
 
     ghost Value = { List Place };

@@ -1,12 +1,12 @@
 //! Walks over a list of places, each of which names its parent.
 ghost use Rattle.std.specs.Prelude.{◌≡◌, ℕ, ◌+◌, ◌-◌, ◌<◌, ◌≤◌, ◌==◌, List, length, slice_get, IfSome, IfOk, All};
 ghost use Rattle.std.specs.List.{find, filter_map};
-ghost use Rattle.vault_model.specs.Tree.{parent_of, name_of, is_under, depth, kind_of, is_part_kind, is_between, may_stand, kind_at, path_of, IsTree};
-ghost use Rattle.vault_model.specs.Limits.{greatest_depth};
+ghost use Rattle.vault_state.specs.Tree.{parent_of, name_of, is_under, depth, kind_of, is_part_kind, is_between, may_stand, kind_at, path_of, IsTree};
+ghost use Rattle.vault_state.specs.Limits.{greatest_depth};
 ghost use Rattle.design_tree.specs.Index.{has_name};
 
 use std::alloc::Allocator;
-use vault_model::{GREATEST_DEPTH, Kind, Name, NoMemory, PART_DEPTH, Path, Place, PlaceId};
+use vault_state::{GREATEST_DEPTH, Kind, Name, NoMemory, PART_DEPTH, Path, Place, PlaceId};
 
 /// The parent of a place.
 pub fn parent_in(places: &[Place], place: PlaceId) -> Option<PlaceId>

@@ -1,6 +1,6 @@
 -- A vault at the beginning of a life.
 use Rattle.std.proofs.Common.{◌≡◌, ℕ, false, List, [], refl, sym, subst, arith}
-use Rattle.vault_model.specs.Vault.{Vault}
+use Rattle.vault_state.specs.Vault.{Vault}
 use Rattle.vault_model.specs.After.{IsDurable}
 use Rattle.vault_device.specs.Disk.{Disk}
 use Rattle.vault_store.specs.declared.phase.Phase.TheVariants.{Idle}

@@ -1,6 +1,6 @@
 -- A vault that begins over a store that was opened.
 use Rattle.std.proofs.Common.{ℕ, List, Result, Ok, Err, IfOk, IfErr, sym, subst}
-use Rattle.vault_model.specs.Vault.{Vault}
+use Rattle.vault_state.specs.Vault.{Vault}
 use Rattle.vault_store.specs.declared.refused.Refused.{Refused}
 use Rattle.vault_store.specs.declared.opening.OpenError.{OpenError}
 use Rattle.vault_format.specs.Files.{AreRead}

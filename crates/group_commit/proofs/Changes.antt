@@ -2,7 +2,7 @@
 use Rattle.std.proofs.Common.{◌≡◌, ℕ, ◌-◌, ◌≤◌, List, [], ◌∷◌, ◌++◌, take, drop, Option, None, Some, refl, sym, ap, ◌∙◌, subst}
 use Rattle.std.specs.Prelude.{option_to_list}
 use Rattle.vault_model.specs.Said.{Effect}
-use Rattle.vault_model.specs.Vault.{Vault, IsVault, durable}
+use Rattle.vault_state.specs.Vault.{Vault, IsVault, durable}
 use Rattle.vault_model.specs.Step.{Outcome}
 use Rattle.vault_model.specs.After.{IsDurableChange}
 use Rattle.group_commit.specs.Entries.{Kept}

@@ -2,7 +2,7 @@
 use Rattle.std.proofs.Common.{◌≡◌, ℕ, ◌-◌, cond, List, [], ◌∷◌, ◌++◌, take, drop, refl, sym, ap, ◌∙◌}
 use Rattle.std.specs.Prelude.{option_to_list}
 use Rattle.std.proofs.lemmas.List.{take-map, drop-map}
-use Rattle.vault_model.specs.Vault.{Vault, durable}
+use Rattle.vault_state.specs.Vault.{Vault, durable}
 use Rattle.vault_store.specs.Phases.{is_idle}
 use Rattle.group_commit.specs.Entries.{Entry, Kept}
 use Rattle.group_commit.specs.History.{Member, Given, replay, outcome_of, members, effects}

@@ -1,8 +1,8 @@
 -- How many commands were counted in a life.
 use Rattle.std.proofs.Common.{ℕ, zero, suc, ◌+◌, ◌<◌, ◌≤◌, List, [], ◌∷◌, take, sym, subst, arith}
 use Rattle.std.proofs.lemmas.List.Elements.{All-weaker}
-use Rattle.vault_model.specs.declared.session.Session.{Session}
-use Rattle.vault_model.specs.Vault.{Vault, CountsBelow}
+use Rattle.vault_state.specs.declared.session.Session.{Session}
+use Rattle.vault_state.specs.Vault.{Vault, CountsBelow}
 use Rattle.group_commit.specs.Entries.{Kept}
 use Rattle.group_commit.specs.History.{replay, outcome_of, members}
 use Rattle.group_commit.specs.World.{World, vault_at}

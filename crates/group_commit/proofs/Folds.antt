@@ -1,7 +1,7 @@
 -- A history is replayed in two parts.
 use Rattle.std.proofs.Common.{◌≡◌, ℕ, zero, suc, ◌+◌, ◌-◌, ◌≤◌, List, [], ◌∷◌, ◌++◌, take, drop, refl, sym, ap, ◌∙◌, arith, append_assoc}
 use Rattle.std.proofs.lemmas.List.{map-append, take-append-drop, drop-drop}
-use Rattle.vault_model.specs.Vault.{Vault}
+use Rattle.vault_state.specs.Vault.{Vault}
 use Rattle.group_commit.specs.Entries.{Kept}
 use Rattle.group_commit.specs.History.{Member, Given, moved, replay, IsLegal, members}
 

@@ -1,6 +1,6 @@
 -- The vault after any history is well formed, and no two of its granted claims overlap.
 use Rattle.std.proofs.Common.{List, [], ◌∷◌}
-use Rattle.vault_model.specs.Vault.{Vault, IsVault, durable}
+use Rattle.vault_state.specs.Vault.{Vault, IsVault, durable}
 use Rattle.group_commit.specs.History.{Member, Given, Restart, moved, replay}
 use Rattle.group_commit.specs.Laws.{IsGuarded}
 use Rattle.group_commit.proofs.Facts.{well_formed_stays, held_is_durable, held_are_apart}

@@ -5,20 +5,20 @@ use Rattle.std.specs.List.{AllByRecursion}
 use Rattle.std.specs.Option.{IfSome}
 use Rattle.std.proofs.lemmas.Bool.Decides.{nat_tests}
 use Rattle.std.proofs.lemmas.List.Elements.{All-head, All-tail}
-use Rattle.vault_model.specs.Limits.{most_items, longest_content}
+use Rattle.vault_state.specs.Limits.{most_items, longest_content}
 use Rattle.vault_model.specs.Said.{Command, Effect}
-use Rattle.vault_model.specs.declared.claims.Item.{Item}
-use Rattle.vault_model.specs.declared.claims.Claim.{Claim}
-use Rattle.vault_model.specs.declared.ids.ClaimId.{ClaimId}
-use Rattle.vault_model.specs.declared.ids.ClaimId.TheVariants.{Long, Short}
-use Rattle.vault_model.specs.Claims.{claim_of}
-use Rattle.vault_model.specs.Vault.{Vault, AreThere, IsGiven, IsClaim, IsVault}
+use Rattle.vault_state.specs.declared.claims.Item.{Item}
+use Rattle.vault_state.specs.declared.claims.Claim.{Claim}
+use Rattle.vault_state.specs.declared.ids.ClaimId.{ClaimId}
+use Rattle.vault_state.specs.declared.ids.ClaimId.TheVariants.{Long, Short}
+use Rattle.vault_state.specs.Claims.{claim_of}
+use Rattle.vault_state.specs.Vault.{Vault, AreThere, IsGiven, IsClaim, IsVault}
 use Rattle.vault_model.specs.Step.{extension, may_save, step}
-use Rattle.vault_model.proofs.Overlaps.{and_both}
-use Rattle.vault_model.proofs.Stays.{own_id, claim_there}
-use Rattle.vault_model.specs.Drafts.{new_draft}
+use Rattle.vault_state.proofs.Overlaps.{and_both}
+use Rattle.vault_state.proofs.Stays.{own_id, claim_there}
+use Rattle.vault_state.specs.Drafts.{new_draft}
 use Rattle.vault_model.proofs.WellFormed.{not_last}
-use Rattle.vault_model.proofs.Shelves.{true_le}
+use Rattle.vault_state.proofs.Shelves.{true_le}
 use Rattle.vault_model.proofs.Transitions.{CanExtend, Transition, made, nested, asked, extended, saved, checked_in, abandoned, given, noted, by_transition}
 use Rattle.vault_journal.specs.Spelling.{IsClaimNumber, ItemFits, HasRecord}
 use Rattle.group_commit.specs.Written.{IsOfItsType}

@@ -4,9 +4,9 @@ use Rattle.std.specs.Prelude.{IsTrue, false, slice_get, None}
 use Rattle.std.specs.Option.{option_map}
 use Rattle.std.proofs.lemmas.List.{length-map}
 use Rattle.std.proofs.lemmas.Option.{slice_get-map}
-use Rattle.vault_model.specs.declared.ids.ClaimId.TheVariants.{Short}
-use Rattle.vault_model.specs.Claims.{claim_of}
-use Rattle.vault_model.specs.Vault.{Vault, durable}
+use Rattle.vault_state.specs.declared.ids.ClaimId.TheVariants.{Short}
+use Rattle.vault_state.specs.Claims.{claim_of}
+use Rattle.vault_state.specs.Vault.{Vault, durable}
 use Rattle.vault_device.specs.Disk.{Disk}
 use Rattle.vault_store.specs.Phases.{is_idle, is_opening, may_open}
 use Rattle.vault_store.specs.Laws.{CrashLeavesWhatIsKept, OneGateIsOpened, OneVault, NothingIsWrong}

@@ -1,6 +1,6 @@
 -- What is reachable goes on.
 use Rattle.std.proofs.Common.{◌∷◌, ◌++◌, ℕ, List, [], refl, sym, ap, ◌∙◌, subst}
-use Rattle.vault_model.specs.Vault.{Vault}
+use Rattle.vault_state.specs.Vault.{Vault}
 use Rattle.group_commit.specs.World.{World, new_world, Act}
 use Rattle.group_commit.specs.Runs.{Event, Within, Crash, AllowsEvent, happened, run, IsRun}
 use Rattle.group_commit.specs.View.{View, view_of, opened_view, ViewAllows, view_acted, MayLeave}

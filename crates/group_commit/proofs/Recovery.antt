@@ -2,7 +2,7 @@
 use Rattle.std.proofs.Common.{◌≡◌, ◌⊎◌, inl, inr, ⊎_elim, ◌+◌, ℕ, ◌≤◌, Bool, true, false, cond, [], ◌∷◌, ◌++◌, length, take, drop, refl, sym, ap, ◌∙◌, arith}
 use Rattle.std.specs.Prelude.{IsTrue}
 use Rattle.std.proofs.lemmas.List.{take_at, append-nil}
-use Rattle.vault_model.specs.Vault.{Vault, new_vault, durable}
+use Rattle.vault_state.specs.Vault.{Vault, new_vault, durable}
 use Rattle.group_commit.specs.History.{Restart, replay, members}
 use Rattle.vault_store.specs.Phases.{is_opening}
 use Rattle.vault_store.proofs.Busy.{opening_is_busy}

@@ -1,7 +1,7 @@
 -- The runs that were worked out by hand, computed.
 use Rattle.std.specs.Prelude.{◌<◌, ◌≢◌, true, false, Some, refl}
 use Rattle.std.proofs.Common.{arith}
-use Rattle.vault_model.specs.Claims.{overlap}
+use Rattle.vault_state.specs.Claims.{overlap}
 use Rattle.vault_model.specs.Step.{step, decide, chained, join, make, admitted, permitted, check_out, hold, state, list}
 use Rattle.group_commit.specs.declared.mark.Mark.TheVariants.{Open, Told}
 use Rattle.vault_store.specs.Phases.{NoCall, Write}

@@ -4,11 +4,12 @@ use denote.Param.Send.{IsSend, Frees, struct_send, recorded_send, view_send}
 use denote.Builtin.{u8}
 use denote.Struct.Declared.{shape}
 use Rattle.std.specs.declared.alloc.Allocator.{Ghosts}
-use Rattle.vault_model.specs.contracts.name.Name as Name
-use Rattle.vault_model.specs.contracts.ids.ClaimId as ClaimId
-use Rattle.vault_model.specs.contracts.path.Path as Path
-use Rattle.vault_model.specs.contracts.claims.PathItem as PathItem
-use Rattle.vault_model.proofs.Sends.{fields, name_send, claim_id_send, listing_send, reply_send}
+use Rattle.vault_state.specs.contracts.name.Name as Name
+use Rattle.vault_state.specs.contracts.ids.ClaimId as ClaimId
+use Rattle.vault_state.specs.contracts.path.Path as Path
+use Rattle.vault_state.specs.contracts.claims.PathItem as PathItem
+use Rattle.vault_state.proofs.Sends.{fields, name_send, claim_id_send, listing_send}
+use Rattle.vault_model.proofs.Sends.{reply_send}
 use Rattle.vault_device.specs.declared.device.Device.{Ghosts as DeviceGhosts}
 use Rattle.vault_checkout.proofs.Sends.{book_send}
 use Rattle.vault_store.proofs.Sends.{store_send}

@@ -2,7 +2,7 @@
 use Rattle.std.proofs.Common.{◌≡◌, ◌≢◌, ℕ, ◌+◌, ◌-◌, ◌^◌, ◌<◌, List, [], ◌∷◌, ◌++◌, length, Option, None, Some, sym, ap, ◌∙◌, subst, arith, length-append}
 use Rattle.std.specs.Prelude.{IfSome}
 use Rattle.vault_model.specs.Said.{Command, Reply, Effect}
-use Rattle.vault_model.specs.Vault.{Vault, CountsBelow, durable}
+use Rattle.vault_state.specs.Vault.{Vault, CountsBelow, durable}
 use Rattle.vault_model.specs.Step.{step}
 use Rattle.vault_model.specs.After.{after}
 use Rattle.vault_device.specs.Disk.{Disk}

@@ -1,6 +1,6 @@
 -- What the start of a snapshot leaves.
 use Rattle.std.proofs.Common.{◌≡◌, inr, ℕ, Bool, true, false, refl, sym, ap, ◌∙◌, subst}
-use Rattle.vault_model.specs.Vault.{Vault, IsVault, durable}
+use Rattle.vault_state.specs.Vault.{Vault, IsVault, durable}
 use Rattle.vault_device.specs.Disk.{Disk}
 use Rattle.vault_format.specs.Snapshot.{HasSnapshot}
 use Rattle.vault_store.specs.Laws.{NotedIsSpelled}

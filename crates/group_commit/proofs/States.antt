@@ -4,7 +4,7 @@ use Rattle.std.specs.Prelude.{option_to_list, nat_le}
 use Rattle.std.proofs.lemmas.List.{drop-append-le, take-append-le, take-append-drop, take_all, drop_all, append-nil}
 use Rattle.std.proofs.lemmas.Option.{same_Some}
 use Rattle.vault_model.specs.Said.{Command, Effect}
-use Rattle.vault_model.specs.Vault.{Vault, IsVault, durable}
+use Rattle.vault_state.specs.Vault.{Vault, IsVault, durable}
 use Rattle.vault_model.specs.Step.{step}
 use Rattle.vault_model.specs.After.{after, IsDurableChange}
 use Rattle.vault_store.specs.declared.phase.Phase.{Phase}

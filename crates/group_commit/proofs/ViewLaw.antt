@@ -3,7 +3,7 @@ use Rattle.std.proofs.Common.{◌≡◌, inl, inr, ℕ, ◌+◌, ◌-◌, ◌≤
 use Rattle.std.proofs.lemmas.List.{drop-append-le, take-append-le, drop-drop}
 use Rattle.std.proofs.lemmas.Bool.{cases_lt}
 use Rattle.vault_model.specs.Said.{Command}
-use Rattle.vault_model.specs.Vault.{Vault, durable}
+use Rattle.vault_state.specs.Vault.{Vault, durable}
 use Rattle.group_commit.specs.declared.mark.Mark.{Mark}
 use Rattle.group_commit.specs.declared.mark.Mark.TheVariants.{Open, Told, Forgotten}
 use Rattle.vault_store.specs.declared.phase.Phase.{Phase}

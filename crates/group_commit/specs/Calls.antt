@@ -1,7 +1,7 @@
 -- When each answer comes. This project's own.
 use Rattle.std.specs.Prelude.{◌≡◌, ◌⊎◌, ℕ, ◌+◌, ◌-◌, ◌^◌, ◌<◌, ◌≤◌, Bool, ◌&&◌, not, true, false, if◌then◌else◌, [], ◌++◌, length, Option, None, Some, slice_get, Result, Ok}
 use Rattle.vault_model.specs.Said.{Effect}
-use Rattle.vault_model.specs.Vault.{durable}
+use Rattle.vault_state.specs.Vault.{durable}
 use Rattle.vault_model.specs.declared.replies.Outside.{Outside}
 use Rattle.vault_model.specs.declared.replies.Outside.TheVariants as outsides
 use Rattle.vault_device.specs.declared.device.Fault.{Fault as DeviceFault}

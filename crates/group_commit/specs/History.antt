@@ -2,8 +2,8 @@
 use Rattle.std.specs.Prelude.{◌≡◌, ℕ, ◌+◌, ◌==◌, if◌then◌else◌, List, [], ◌∷◌, ◌++◌, map, option_to_list}
 use Rattle.std.specs.Option.{option_map_or}
 use Rattle.vault_model.specs.Said.{Command, Effect}
-use Rattle.vault_model.specs.declared.session.Session.{Session}
-use Rattle.vault_model.specs.Vault.{Vault, session_of, durable}
+use Rattle.vault_state.specs.declared.session.Session.{Session}
+use Rattle.vault_state.specs.Vault.{Vault, session_of, durable}
 use Rattle.vault_model.specs.Step.{Outcome, step}
 use Rattle.group_commit.specs.Entries.{Entry, Kept}
 

@@ -1,6 +1,6 @@
 -- A vault by its fields, and what every vault keeps.
 use Rattle.std.specs.Prelude.{◌≡◌, ℕ, ◌+◌, ◌<◌, ◌^◌, List, length}
-use Rattle.vault_model.specs.Vault.{Vault}
+use Rattle.vault_state.specs.Vault.{Vault}
 use Rattle.vault_device.specs.Disk.{Disk}
 use Rattle.vault_store.specs.Seen.{Keeps}
 use Rattle.group_commit.specs.declared.vault.Vault.TheInside.{Inside}

@@ -1,12 +1,12 @@
 -- What is promised of every run. The definitions of runs speak of the length of a snapshot; the laws hold whatever it is.
 -- This project's own.
 use Rattle.std.specs.Prelude.{◌≡◌, ◌↔◌, ◌⊎◌, ℕ, ◌+◌, ◌-◌, ◌<◌, ◌≤◌, IsTrue, true, false, List, ◌++◌, length, take, drop, Some, slice_get}
-use Rattle.vault_model.specs.declared.claims.Claim.{Claim}
-use Rattle.vault_model.specs.declared.claims.Standing.TheVariants.{Held}
-use Rattle.vault_model.specs.declared.ids.ClaimId.{ClaimId}
-use Rattle.vault_model.specs.declared.ids.ClaimId.TheVariants.{Long}
-use Rattle.vault_model.specs.Claims.{same_id, overlap, claim_of, standing_of, without_short}
-use Rattle.vault_model.specs.Vault.{Vault, IsVault, CountsBelow, new_vault, durable}
+use Rattle.vault_state.specs.declared.claims.Claim.{Claim}
+use Rattle.vault_state.specs.declared.claims.Standing.TheVariants.{Held}
+use Rattle.vault_state.specs.declared.ids.ClaimId.{ClaimId}
+use Rattle.vault_state.specs.declared.ids.ClaimId.TheVariants.{Long}
+use Rattle.vault_state.specs.Claims.{same_id, overlap, claim_of, standing_of, without_short}
+use Rattle.vault_state.specs.Vault.{Vault, IsVault, CountsBelow, new_vault, durable}
 use Rattle.group_commit.specs.declared.mark.Mark.TheVariants.{Told}
 use Rattle.group_commit.specs.Entries.{Entry, mark_at}
 use Rattle.vault_format.specs.Files.{applied}

@@ -1,6 +1,6 @@
 -- A vault at the beginning of a life. This project's own.
 use Rattle.std.specs.Prelude.{◌≡◌, ℕ, IsTrue, [], Result, Ok, Err}
-use Rattle.vault_model.specs.Vault.{Vault}
+use Rattle.vault_state.specs.Vault.{Vault}
 use Rattle.vault_device.specs.Disk.{Disk}
 use Rattle.vault_store.specs.declared.creation.CreateError.{CreateError}
 use Rattle.vault_store.specs.declared.creation.CreateError.TheVariants.{Exists, Device, NoMemory}

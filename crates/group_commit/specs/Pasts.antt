@@ -1,6 +1,6 @@
 -- The past of a vault: what was seen of it, call by call, over any number of crashes. This project's own.
 use Rattle.std.specs.Prelude.{◌≡◌, ◌⊎◌, ℕ, IsTrue, false, List, [], ◌∷◌}
-use Rattle.vault_model.specs.Vault.{Vault}
+use Rattle.vault_state.specs.Vault.{Vault}
 use Rattle.vault_device.specs.Disk.{Disk}
 use Rattle.vault_format.specs.Files.{AreRead}
 use Rattle.vault_store.specs.Laws.{AreHonest}

@@ -1,6 +1,6 @@
 -- What is promised of the files of a vault. This project's own.
 use Rattle.std.specs.Prelude.{◌≡◌, ℕ, true, false, List}
-use Rattle.vault_model.specs.Vault.{Vault}
+use Rattle.vault_state.specs.Vault.{Vault}
 use Rattle.vault_device.specs.Disk.{Disk}
 use Rattle.vault_format.specs.Files.{StandFor}
 use Rattle.vault_store.specs.Laws.{AreHonest, IsOneGate}

@@ -1,9 +1,9 @@
 -- What is recovered after any past of a vault. This project's own.
 use Rattle.std.specs.Prelude.{◌≡◌, ◌⊎◌, ℕ, zero, suc, ◌+◌, ◌≤◌, IsTrue, Bool, List, [], ◌∷◌, ◌++◌, length, take, None, Some, slice_get}
 use Rattle.std.proofs.Common.{inl, inr}
-use Rattle.vault_model.specs.declared.ids.ClaimId.TheVariants.{Short}
-use Rattle.vault_model.specs.Claims.{claim_of, without_short}
-use Rattle.vault_model.specs.Vault.{Vault, durable}
+use Rattle.vault_state.specs.declared.ids.ClaimId.TheVariants.{Short}
+use Rattle.vault_state.specs.Claims.{claim_of, without_short}
+use Rattle.vault_state.specs.Vault.{Vault, durable}
 use Rattle.vault_device.specs.Disk.{Disk}
 use Rattle.vault_store.specs.declared.opening.OpenError.{OpenError}
 use Rattle.vault_format.specs.Files.{StandFor}

@@ -4,8 +4,8 @@ use Rattle.vault_model.specs.Said.{Command, Reply}
 use Rattle.vault_model.specs.declared.commands.Command.TheVariants.{Join, Make, CheckOut, Hold, State, List as Names}
 use Rattle.vault_model.specs.declared.replies.Reply.TheVariants.{Session, Place, Held, Queued, Children, Refused}
 use Rattle.vault_model.specs.declared.replies.Refusal.TheVariants.{NoSession, NoClaim}
-use Rattle.vault_model.specs.declared.ids.ClaimId.TheVariants.{Long, Short}
-use Rattle.vault_model.specs.Vault.{Vault}
+use Rattle.vault_state.specs.declared.ids.ClaimId.TheVariants.{Long, Short}
+use Rattle.vault_state.specs.Vault.{Vault}
 use Rattle.vault_model.specs.Rows.{anna, ben, path_e, look, change}
 use Rattle.vault_store.specs.declared.phase.Advanced.{Advanced as Pumped}
 use Rattle.vault_store.specs.declared.phase.Advanced.TheVariants.{Idle as Rests, Moved, Settled}

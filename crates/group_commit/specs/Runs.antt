@@ -1,6 +1,6 @@
 -- Runs: any order of acts and crashes, each allowed where it stands. This project's own.
 use Rattle.std.specs.Prelude.{ℕ, List, [], ◌∷◌}
-use Rattle.vault_model.specs.Vault.{Vault}
+use Rattle.vault_state.specs.Vault.{Vault}
 use Rattle.group_commit.specs.World.{World, Act, GateLeft, Allows, acted, crashed}
 
 -- an act of the present life, or a crash with the restart after it

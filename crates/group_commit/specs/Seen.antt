@@ -1,7 +1,7 @@
 -- What contracts see of a vault, and what every vault keeps. This project's own.
 use Rattle.std.specs.Prelude.{◌≡◌, ℕ, ◌+◌, ◌-◌, ◌<◌, ◌≤◌, true, false, if◌then◌else◌, List, [], length, take, drop, Some}
 use Rattle.vault_model.specs.Said.{Effect}
-use Rattle.vault_model.specs.Vault.{Vault, IsVault, CountsBelow, durable}
+use Rattle.vault_state.specs.Vault.{Vault, IsVault, CountsBelow, durable}
 use Rattle.vault_format.specs.Snapshot.{snapshot_of}
 use Rattle.vault_store.specs.Phases.{is_idle}
 use Rattle.vault_store.specs.State.{StoreState}

@@ -1,5 +1,5 @@
 -- What an effect has by its type alone. This project's own.
-use Rattle.vault_model.specs.Name.{IsName}
+use Rattle.vault_state.specs.Name.{IsName}
 use Rattle.vault_model.specs.Said.{Effect}
 use Rattle.vault_model.specs.declared.effects.Effect.TheVariants.{Made, Nested, Asked, Given}
 

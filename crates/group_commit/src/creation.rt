@@ -1,6 +1,6 @@
 //! A vault in two new files, at the beginning of its first life.
 ghost use Rattle.std.specs.Prelude.{◌≡◌, ◌⊎◌, [], IfOk, IfErr, IsTrue};
-ghost use Rattle.vault_model.specs.Vault.{new_vault};
+ghost use Rattle.vault_state.specs.Vault.{new_vault};
 ghost use Rattle.vault_store.specs.declared.creation.CreateError.TheVariants.{Exists, Device as DeviceFailed, NoMemory as Wanted};
 ghost use Rattle.vault_store.specs.Calls.{IsCalled, HasCause, AreQuiet};
 ghost use Rattle.vault_store.specs.Opening.{IsHandedOn};

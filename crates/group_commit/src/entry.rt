@@ -1,6 +1,6 @@
 //! An entry of the history, as it is kept.
 ghost use Rattle.std.specs.Prelude.{◌≡◌, IfOk};
-ghost use Rattle.vault_model.specs.Vault.{Vault};
+ghost use Rattle.vault_state.specs.Vault.{Vault};
 ghost use Rattle.group_commit.specs.History.{number_of};
 ghost use Rattle.group_commit.specs.Entries.{Entry as Given, opened};
 

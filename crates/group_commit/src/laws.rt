@@ -1,6 +1,6 @@
 //! The laws of the history, over every run.
 ghost use Rattle.std.specs.Prelude.{ℕ};
-ghost use Rattle.vault_model.specs.Vault.{Vault};
+ghost use Rattle.vault_state.specs.Vault.{Vault};
 ghost use Rattle.group_commit.specs.Rows.{Rows};
 ghost use Rattle.group_commit.specs.Laws.{ActsAreOfTheView, CrashesOpen, HistoryIsLegal, ToldStays, ToldIsSettled, WorldsAreOrderly, PrefixesAreGuarded, RecoveryGivesAPrefix, LeftIsRecovered, EffectsAreTheChange, CountsAreOfTheLife, ReachableGoesOn};
 

@@ -8,7 +8,7 @@
 //! (`promises::recovery_gives_one_prefix`), and each receipt is found again in it. Files of one vault stay so, and after a crash they
 //! aren't reported as those of two (`promises::files_pass`). `laws` say the same for the definitions, over every run: a caller's view
 //! (the present life) acts as the whole world (all lives). Ten runs worked out by hand are proved.
-//! Stands on: vault_model, vault_device, vault_journal, vault_checkout, vault_store. Must not know: lines, connections,
+//! Stands on: vault_state, vault_model, vault_device, vault_journal, vault_checkout, vault_store. Must not know: lines, connections,
 //! threads, what a command does (proofs cite five laws of the step, in proofs/Facts.antt).
 //!
 //! Invariants, of `Vault`:

@@ -1,6 +1,6 @@
 //! Effects of staged commands, noted in the store.
 ghost use Rattle.std.specs.Prelude.{◌≡◌, IsTrue, IfSome, Some};
-ghost use Rattle.vault_model.specs.Vault.{Vault};
+ghost use Rattle.vault_state.specs.Vault.{Vault};
 ghost use Rattle.vault_model.specs.After.{after};
 ghost use Rattle.vault_journal.specs.Spelling.{HasRecord};
 ghost use Rattle.vault_store.specs.State.{StoreState, with_effect};

@@ -1,6 +1,6 @@
 //! What every vault keeps, and what a crash leaves of it.
 ghost use Rattle.std.specs.Prelude.{◌≡◌, List, [], ◌∷◌};
-ghost use Rattle.vault_model.specs.Vault.{new_vault};
+ghost use Rattle.vault_state.specs.Vault.{new_vault};
 ghost use Rattle.vault_store.specs.Seen.{Keeps};
 ghost use Rattle.group_commit.specs.View.{opened_view};
 ghost use Rattle.group_commit.specs.Seen.{VaultSeen, IsSoundView, state_of};

@@ -1,6 +1,6 @@
 //! A snapshot is begun.
 ghost use Rattle.std.specs.Prelude.{◌≡◌, Ok, OnErr};
-ghost use Rattle.vault_model.specs.Vault.{durable};
+ghost use Rattle.vault_state.specs.Vault.{durable};
 ghost use Rattle.vault_store.specs.declared.starting.Started.TheVariants as answers;
 ghost use Rattle.vault_store.specs.Seen.{started_seen, wants_snapshot};
 ghost use Rattle.group_commit.specs.World.{StartSnapshot};

@@ -1,6 +1,6 @@
 //! A vault with the history of its present life.
 ghost use Rattle.std.specs.Prelude.{◌≡◌, ◌-◌, length};
-ghost use Rattle.vault_model.specs.Claims.{standing_of};
+ghost use Rattle.vault_state.specs.Claims.{standing_of};
 ghost use Rattle.vault_store.specs.Seen.{first_of, second_of};
 
 use crate::bygone::Bygone;

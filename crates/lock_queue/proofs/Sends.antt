@@ -3,7 +3,7 @@ use denote.RattleType.{RattleType}
 use denote.Param.Send.{IsSend, Frees, struct_send, recorded_send, view_send}
 use denote.Struct.Declared.{shape}
 use Rattle.std.specs.declared.alloc.Allocator.{Ghosts}
-use Rattle.vault_model.proofs.Sends.{fields, claim_id_send}
+use Rattle.vault_state.proofs.Sends.{fields, claim_id_send}
 use Rattle.lock_modes.specs.contracts.group.Group as Group
 use Rattle.lock_queue.specs.contracts.queue.Request as Request
 use Rattle.lock_queue.specs.contracts.queue.PlaceQueue as PlaceQueue

@@ -4,8 +4,8 @@ use Rattle.std.proofs.Common.{sym, ap, subst, ◌∙◌, cond, arith}
 use Rattle.std.specs.List.{remove, position_or_len}
 use Rattle.std.proofs.lemmas.Bool.Decides.{nat_tests}
 use Rattle.std.proofs.lemmas.Option.{same_Some}
-use Rattle.vault_model.specs.declared.ids.ClaimId.{ClaimId}
-use Rattle.vault_model.specs.Claims.{same_id}
+use Rattle.vault_state.specs.declared.ids.ClaimId.{ClaimId}
+use Rattle.vault_state.specs.Claims.{same_id}
 use Rattle.lock_modes.specs.declared.mode.Mode.{Mode}
 use Rattle.lock_modes.specs.Groups.{size, group_of}
 use Rattle.lock_queue.specs.declared.queue.Request.{Request}

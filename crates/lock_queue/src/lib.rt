@@ -4,7 +4,7 @@
 //! Promises: each change of a queue is the same change of its list of requests. Three searches give what a search of that list would,
 //! though they ask the groups first: for the first claim in the way of a mode, for the first granted one in the way that isn't a given
 //! claim's, and for the first granted one that covers the place (`PlaceQueue`).
-//! Stands on: vault_model, lock_modes. Must not know: the tree, whole claims, the line.
+//! Stands on: vault_state, lock_modes. Must not know: the tree, whole claims, the line.
 //!
 //! Invariant, of `PlaceQueue`: both groups count exactly the requests of the queue.
 //!

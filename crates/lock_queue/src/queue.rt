@@ -1,7 +1,7 @@
 //! The queue of one place, with counts of its modes.
 ghost use Rattle.std.specs.Prelude.{◌≡◌, suc, ◌+◌, ◌<◌, ◌≤◌, [], ◌∷◌, ◌++◌, true, false, length, position, vec_capacity, OnOk, OnErr};
-ghost use Rattle.vault_model.specs.Claims.{same_id, is_short};
-ghost use Rattle.vault_model.specs.Limits.{most_claims};
+ghost use Rattle.vault_state.specs.Claims.{same_id, is_short};
+ghost use Rattle.vault_state.specs.Limits.{most_claims};
 ghost use Rattle.lock_modes.specs.Groups.{group_of, with_one, size, count_of};
 ghost use Rattle.lock_queue.specs.declared.queue.Request.{Request};
 ghost use Rattle.lock_queue.specs.Queue.{AreCounted, request_modes, held_requests, long_requests, first_of, with_own, HasOwn, IsOwn, HasRequest, requests_without, restood, is_in_way, is_held_in_way, is_cover};
@@ -9,7 +9,7 @@ ghost use Rattle.lock_queue.specs.Queue.{AreCounted, request_modes, held_request
 use lock_modes::{Group, Mode};
 use std::alloc::{AllocError, Allocator, Global};
 use std::marker::Model;
-use vault_model::ClaimId;
+use vault_state::ClaimId;
 
 /// A claim's lock request in the queue of one place: its mode there, and whether it is granted (held).
 #[derive(Clone, Copy, Debug, PartialEq, Eq)]

@@ -4,9 +4,9 @@ use Rattle.std.proofs.Common.{sym, ap, subst, ◌∙◌, cond}
 use Rattle.std.specs.List.{position_or_len, remove, IsDistinct}
 use Rattle.std.specs.Option.{option_map}
 use Rattle.std.proofs.lemmas.List.Elements.{All-nil, All-cons, All-head, All-tail}
-use Rattle.vault_model.specs.declared.ids.ClaimId.{ClaimId}
-use Rattle.vault_model.specs.Claims.{same_id}
-use Rattle.vault_model.proofs.Stays.{same_id_itself}
+use Rattle.vault_state.specs.declared.ids.ClaimId.{ClaimId}
+use Rattle.vault_state.specs.Claims.{same_id}
+use Rattle.vault_state.proofs.Stays.{same_id_itself}
 use Rattle.lock_modes.specs.declared.mode.Mode.{Mode}
 use Rattle.lock_modes.specs.Modes.{incompatible}
 use Rattle.lock_modes.proofs.Joins.{incompatible_symmetric}

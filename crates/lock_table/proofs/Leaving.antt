@@ -5,10 +5,10 @@ use Rattle.std.specs.List.{prefix_len}
 use Rattle.std.specs.Option.{option_map}
 use Rattle.std.proofs.lemmas.List.Elements.{All-nil, All-cons}
 use Rattle.std.proofs.lemmas.List.Sums.{length-filter, count_by-le-length}
-use Rattle.vault_model.specs.declared.ids.ClaimId.{ClaimId}
-use Rattle.vault_model.specs.Claims.{same_id}
-use Rattle.vault_model.proofs.Distinct.{IsDistinct-filter}
-use Rattle.vault_model.proofs.Stays.{same_id_is}
+use Rattle.vault_state.specs.declared.ids.ClaimId.{ClaimId}
+use Rattle.vault_state.specs.Claims.{same_id}
+use Rattle.vault_state.proofs.Distinct.{IsDistinct-filter}
+use Rattle.vault_state.proofs.Stays.{same_id_is}
 use Rattle.lock_modes.specs.declared.mode.Mode.{Mode}
 use Rattle.lock_table.specs.declared.entry.Entry.{Entry}
 use Rattle.lock_queue.specs.declared.queue.Request.{Request}

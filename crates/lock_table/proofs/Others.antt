@@ -3,10 +3,10 @@ use Rattle.std.specs.Prelude.{◌≡◌, ℕ, Bool, true, false, not, List, [], 
 use Rattle.std.proofs.Common.{sym, ap, subst, ◌∙◌, cond}
 use Rattle.std.specs.List.{IsDistinct, AllByRecursion}
 use Rattle.std.specs.Option.{option_map}
-use Rattle.vault_model.specs.declared.ids.ClaimId.{ClaimId}
-use Rattle.vault_model.specs.declared.claims.Standing.TheVariants.{Held}
-use Rattle.vault_model.specs.Claims.{same_id, standing_by}
-use Rattle.vault_model.proofs.Stays.{same_id_is, same_id_turned}
+use Rattle.vault_state.specs.declared.ids.ClaimId.{ClaimId}
+use Rattle.vault_state.specs.declared.claims.Standing.TheVariants.{Held}
+use Rattle.vault_state.specs.Claims.{same_id, standing_by}
+use Rattle.vault_state.proofs.Stays.{same_id_is, same_id_turned}
 use Rattle.std.proofs.lemmas.Option.{same_Some}
 use Rattle.lock_modes.specs.declared.mode.Mode.{Mode}
 use Rattle.lock_modes.specs.Groups.{Counts, with_one, group_of}

@@ -7,10 +7,10 @@ use Rattle.std.proofs.lemmas.Bool.Decides.{nat_tests}
 use Rattle.std.proofs.lemmas.List.Elements.{All-nil, All-cons, All-head, All-tail, All-filter}
 use Rattle.std.proofs.lemmas.List.Folds.{find_at}
 use Rattle.std.proofs.lemmas.Option.{same_Some}
-use Rattle.vault_model.specs.declared.ids.ClaimId.{ClaimId}
-use Rattle.vault_model.specs.Claims.{same_id, standing_by}
-use Rattle.vault_model.proofs.Stays.{same_id_is}
-use Rattle.vault_model.specs.Limits.{most_claims}
+use Rattle.vault_state.specs.declared.ids.ClaimId.{ClaimId}
+use Rattle.vault_state.specs.Claims.{same_id, standing_by}
+use Rattle.vault_state.proofs.Stays.{same_id_is}
+use Rattle.vault_state.specs.Limits.{most_claims}
 use Rattle.lock_modes.specs.declared.mode.Mode.{Mode}
 use Rattle.lock_modes.specs.Modes.{incompatible}
 use Rattle.lock_table.specs.declared.locks.Lock.{Lock}

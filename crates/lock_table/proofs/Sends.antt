@@ -8,7 +8,7 @@ use Rattle.std.specs.declared.alloc.Allocator.{Ghosts}
 use Rattle.arrayvec.specs.contracts.cells.Cells as Cells
 use Rattle.arrayvec.specs.contracts.array_vec.ArrayVec as ArrayVec
 use Rattle.arrayvec.specs.contracts.array_vec.ArrayVec.TheInside as ArrayVecInside
-use Rattle.vault_model.proofs.Sends.{fields, claim_id_send}
+use Rattle.vault_state.proofs.Sends.{fields, claim_id_send}
 use Rattle.lock_queue.proofs.Sends.{queue_send}
 use Rattle.lock_table.specs.declared.locks.TheConstants.{MAX_LOCKS}
 use Rattle.lock_table.specs.contracts.locks.Lock as Lock

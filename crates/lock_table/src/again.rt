@@ -3,7 +3,7 @@ ghost use Rattle.std.specs.Prelude.{◌≡◌};
 ghost use Rattle.lock_table.specs.Queues.{is_taken};
 
 use lock_queue::{is_same, is_short};
-use vault_model::ClaimId;
+use vault_state::ClaimId;
 
 /// The claims that waited for one claim, those that waited for any short one, or all.
 #[derive(Clone, Copy)]

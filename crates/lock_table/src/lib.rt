@@ -4,7 +4,7 @@
 //! table answers as the model's line (queue of claims) does, and a new place changes no standing (`laws`). For each place it gives the
 //! group of all claims' modes and that of the granted claims' modes (`group_at`, `held_at`). All short claims leave at once
 //! (`release_short`).
-//! Stands on: vault_model, design_tree, lock_modes, lock_queue. Must not know: owners, kinds of claims, drafts.
+//! Stands on: vault_state, design_tree, lock_modes, lock_queue. Must not know: owners, kinds of claims, drafts.
 //!
 //! Invariants:
 //! 1. `LockSet`: no place has two locks.

@@ -1,8 +1,8 @@
 //! The queues of all places.
 ghost use Rattle.std.specs.Prelude.{◌≡◌, ◌≢◌, ℕ, ◌+◌, ◌<◌, ◌≤◌, [], ◌∷◌, ◌++◌, true, Some, length, take, position, slice_get, vec_len, is_none, IfOk, OnOk, OnErr};
 ghost use Rattle.std.specs.List.{list_all};
-ghost use Rattle.vault_model.specs.Claims.{same_id};
-ghost use Rattle.vault_model.specs.Limits.{most_claims};
+ghost use Rattle.vault_state.specs.Claims.{same_id};
+ghost use Rattle.vault_state.specs.Limits.{most_claims};
 ghost use Rattle.lock_modes.specs.declared.mode.Mode.{Mode};
 ghost use Rattle.lock_table.specs.declared.entry.Entry.{Entry};
 ghost use Rattle.lock_modes.specs.Modes.{compatible};
@@ -16,7 +16,7 @@ use crate::{Lock, LockSet};
 use lock_modes::{Group, Mode};
 use lock_queue::{PlaceQueue, Request, is_same};
 use std::alloc::{AllocError, Allocator};
-use vault_model::{ClaimId, PlaceId};
+use vault_state::{ClaimId, PlaceId};
 
 /// The group of all claims at a place.
 pub(crate) fn group_at<A: Allocator>(queues: &[PlaceQueue<A>], place: PlaceId) -> Group

@@ -2,8 +2,8 @@
 ghost use Rattle.std.specs.Prelude.{◌≡◌, ℕ, ◌+◌, ◌<◌, ◌≤◌, nat_le, true, false, List, [], ◌∷◌, ◌++◌, length, map, is_some, position, slice_get, take, set, vec_len, if◌then◌else◌, Option, None, Some, All, IfOk, OnOk, OnErr};
 ghost use Rattle.std.specs.List.{remove};
 ghost use Rattle.std.specs.Option.{option_map};
-ghost use Rattle.vault_model.specs.Claims.{same_id, is_short, standing_by};
-ghost use Rattle.vault_model.specs.Limits.{most_claims};
+ghost use Rattle.vault_state.specs.Claims.{same_id, is_short, standing_by};
+ghost use Rattle.vault_state.specs.Limits.{most_claims};
 ghost use Rattle.lock_queue.specs.declared.queue.Request.{Request};
 ghost use Rattle.lock_table.specs.declared.entry.Entry.{Entry};
 ghost use Rattle.lock_table.specs.Queues.{AreQueues, is_taken, blocker_at, blockers_of, requests_at, room_at, requests_by, queue_of, group_in, held_group_in, waits_behind};
@@ -22,7 +22,7 @@ use lock_modes::Group;
 use lock_queue::{PlaceQueue, is_short};
 use std::alloc::{Allocator, Global};
 use std::marker::Model;
-use vault_model::{ClaimId, MAX_CLAIMS, NoMemory, PlaceId, Standing};
+use vault_state::{ClaimId, MAX_CLAIMS, NoMemory, PlaceId, Standing};
 
 /// Claims in line order, each with its modes and its blocker (the claim that it waits for); and for each
 /// place the queue of the claims that have a mode there. Contracts see the list of its entries.

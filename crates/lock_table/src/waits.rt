@@ -3,7 +3,7 @@
 ghost use Rattle.std.specs.Prelude.{◌≡◌, ℕ, ◌+◌, ◌<◌, ◌≤◌, ◌==◌, Bool, length, map, is_none, position, slice_get, take, set, Option, None, Some};
 ghost use Rattle.std.specs.List.{IsDistinct};
 ghost use Rattle.std.specs.Option.{option_map, option_and_then};
-ghost use Rattle.vault_model.specs.Claims.{same_id};
+ghost use Rattle.vault_state.specs.Claims.{same_id};
 ghost use Rattle.lock_queue.specs.declared.queue.Request.{Request};
 ghost use Rattle.lock_table.specs.declared.entry.Entry.{Entry};
 ghost use Rattle.lock_table.specs.Queues.{HaveRequests, IsWeighing, IsHeldAs, held_by, is_taken, blockers_of, requests_at, room_at, requests_by, queue_of, is_queued_at, is_queued_in, is_queued_against, waits_where};
@@ -16,7 +16,7 @@ use crate::{Lock, LockSet};
 use lock_modes::Mode;
 use lock_queue::{PlaceQueue, Request};
 use std::alloc::Allocator;
-use vault_model::ClaimId;
+use vault_state::ClaimId;
 
 /// The id of the claim at a position, if there is one.
 pub(crate) fn id_at<A: Allocator>(entries: &[KeptEntry<A>], index: Option<usize>) -> Option<ClaimId>

@@ -4,11 +4,11 @@ use Rattle.std.proofs.Common.{sym, ap, subst, ◌∙◌, arith, get_or}
 use Rattle.std.specs.List.{IsDistinct, AllByRecursion, list_any}
 use Rattle.std.proofs.lemmas.List.{take_more}
 use Rattle.std.proofs.lemmas.List.Elements.{All-nil, All-cons}
-use Rattle.vault_model.specs.declared.claims.Claim.{Claim}
-use Rattle.vault_model.specs.declared.ids.ClaimId.{ClaimId}
-use Rattle.vault_model.specs.Claims.{same_id, claim_of}
-use Rattle.vault_model.proofs.Distinct.{IsDistinct-push}
-use Rattle.vault_model.proofs.Stays.{ids}
+use Rattle.vault_state.specs.declared.claims.Claim.{Claim}
+use Rattle.vault_state.specs.declared.ids.ClaimId.{ClaimId}
+use Rattle.vault_state.specs.Claims.{same_id, claim_of}
+use Rattle.vault_state.proofs.Distinct.{IsDistinct-push}
+use Rattle.vault_state.proofs.Stays.{ids}
 
 -- some claim has this id
 abbrev pub has_id : List Claim → ClaimId → Bool

@@ -3,15 +3,15 @@ use Rattle.std.specs.Prelude.{◌≡◌, ℕ, zero, suc, Bool, true, false, not,
 use Rattle.std.proofs.Common.{ap, subst, ◌∙◌, cond, arith}
 use Rattle.std.specs.List.{IsDistinct, AllByRecursion}
 use Rattle.std.proofs.lemmas.List.Elements.{All-nil, All-cons, All-head, All-tail, All-filter}
-use Rattle.vault_model.specs.declared.place.Place.{Place}
-use Rattle.vault_model.specs.declared.claims.Claim.{Claim}
-use Rattle.vault_model.specs.declared.ids.ClaimId.{ClaimId}
-use Rattle.vault_model.specs.declared.ids.ClaimId.TheVariants.{Long, Short}
-use Rattle.vault_model.specs.Claims.{same_id, without}
-use Rattle.vault_model.specs.Vault.{AreThere}
+use Rattle.vault_state.specs.declared.place.Place.{Place}
+use Rattle.vault_state.specs.declared.claims.Claim.{Claim}
+use Rattle.vault_state.specs.declared.ids.ClaimId.{ClaimId}
+use Rattle.vault_state.specs.declared.ids.ClaimId.TheVariants.{Long, Short}
+use Rattle.vault_state.specs.Claims.{same_id, without}
+use Rattle.vault_state.specs.Vault.{AreThere}
 use Rattle.lock_table.specs.declared.entry.Entry.{Entry}
 use Rattle.lock_table.specs.Tables.{IsTableOf}
-use Rattle.vault_model.proofs.Stays.{ids, same_id_itself, same_id_turned}
+use Rattle.vault_state.proofs.Stays.{ids, same_id_itself, same_id_turned}
 use Rattle.long_locks.specs.Lines.{LineSeen, IsNumbered, IsLine, is_short, ends, left_by}
 use Rattle.long_locks.specs.declared.ending.Ending.{Ending}
 use Rattle.long_locks.specs.declared.ending.Ending.TheVariants.{AllShort}

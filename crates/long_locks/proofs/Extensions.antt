@@ -3,14 +3,14 @@ use Rattle.std.specs.Prelude.{◌≡◌, ℕ, Bool, true, false, not, List, [], 
 use Rattle.std.proofs.Common.{sym, ap, cond}
 use Rattle.std.specs.Option.{option_map_or}
 use Rattle.std.proofs.lemmas.List.Elements.{All-cons, All-filter}
-use Rattle.vault_model.specs.declared.place.Place.{Place}
-use Rattle.vault_model.specs.declared.claims.Item.{Item}
-use Rattle.vault_model.specs.declared.claims.Claim.{Claim}
-use Rattle.vault_model.specs.declared.ids.ClaimId.{ClaimId}
-use Rattle.vault_model.specs.Tree.{IsTree}
-use Rattle.vault_model.specs.Claims.{same_id, claim_of, without}
-use Rattle.vault_model.specs.Vault.{AreThere}
-use Rattle.vault_model.proofs.Stays.{own_id, claim_there}
+use Rattle.vault_state.specs.declared.place.Place.{Place}
+use Rattle.vault_state.specs.declared.claims.Item.{Item}
+use Rattle.vault_state.specs.declared.claims.Claim.{Claim}
+use Rattle.vault_state.specs.declared.ids.ClaimId.{ClaimId}
+use Rattle.vault_state.specs.Tree.{IsTree}
+use Rattle.vault_state.specs.Claims.{same_id, claim_of, without}
+use Rattle.vault_state.specs.Vault.{AreThere}
+use Rattle.vault_state.proofs.Stays.{own_id, claim_there}
 use Rattle.lock_table.specs.declared.locks.Lock.{Lock}
 use Rattle.lock_table.specs.declared.entry.Entry.{Entry}
 use Rattle.lock_table.specs.declared.entry.Extension.TheVariants.{Done, InTheWay}

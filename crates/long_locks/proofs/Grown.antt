@@ -4,14 +4,14 @@ use Rattle.std.proofs.Common.{sym, ap, subst, ◌∙◌, arith, length-append, a
 use Rattle.long_locks.specs.Lines.{IsGrownFrom}
 use Rattle.std.specs.Option.{option_map, option_map_or}
 use Rattle.std.proofs.lemmas.List.Elements.{All-head, All-tail, All-weaker}
-use Rattle.vault_model.specs.declared.place.Place.{Place}
-use Rattle.vault_model.specs.declared.claims.Item.{Item}
-use Rattle.vault_model.specs.declared.claims.Claim.{Claim}
-use Rattle.vault_model.specs.Tree.{parent_of, is_under_within}
-use Rattle.vault_model.specs.Claims.{is_change}
-use Rattle.vault_model.specs.Vault.{AreThere}
-use Rattle.vault_model.proofs.Walks.{Rises, same_at}
-use Rattle.vault_model.proofs.Lists.{slice_get-front}
+use Rattle.vault_state.specs.declared.place.Place.{Place}
+use Rattle.vault_state.specs.declared.claims.Item.{Item}
+use Rattle.vault_state.specs.declared.claims.Claim.{Claim}
+use Rattle.vault_state.specs.Tree.{parent_of, is_under_within}
+use Rattle.vault_state.specs.Claims.{is_change}
+use Rattle.vault_state.specs.Vault.{AreThere}
+use Rattle.vault_state.proofs.Walks.{Rises, same_at}
+use Rattle.vault_state.proofs.Lists.{slice_get-front}
 use Rattle.lock_modes.specs.Modes.{join_of}
 use Rattle.lock_table.specs.declared.entry.Entry.{Entry}
 use Rattle.lock_table.specs.ClaimModes.{item_mode, item_mode_of, claim_mode}

@@ -9,13 +9,13 @@ use Rattle.std.proofs.lemmas.Bool.Decides.{nat_tests}
 use Rattle.indexmap.specs.IndexMap.{move_index, insert_entry}
 use Rattle.indexmap.specs.Layout.{set_value_at}
 use Rattle.indexmap.proofs.MapLemmas.{Found-position, remove_entry-first, some_index, insert_entry-first}
-use Rattle.vault_model.specs.declared.claims.Item.{Item}
-use Rattle.vault_model.specs.declared.claims.Claim.{Claim}
-use Rattle.vault_model.specs.declared.ids.ClaimId.{ClaimId}
-use Rattle.vault_model.specs.declared.ids.ClaimId.TheVariants.{Long, Short}
-use Rattle.vault_model.specs.contracts.ids.ClaimIdPartialEq.TheImpl.{eq-value}
-use Rattle.vault_model.specs.Claims.{same_id, claim_of, without, changed}
-use Rattle.vault_model.proofs.Stays.{same_id_is}
+use Rattle.vault_state.specs.declared.claims.Item.{Item}
+use Rattle.vault_state.specs.declared.claims.Claim.{Claim}
+use Rattle.vault_state.specs.declared.ids.ClaimId.{ClaimId}
+use Rattle.vault_state.specs.declared.ids.ClaimId.TheVariants.{Long, Short}
+use Rattle.vault_state.specs.contracts.ids.ClaimIdPartialEq.TheImpl.{eq-value}
+use Rattle.vault_state.specs.Claims.{same_id, claim_of, without, changed}
+use Rattle.vault_state.proofs.Stays.{same_id_is}
 use Rattle.long_locks.specs.Lines.{put_first}
 use Rattle.long_locks.specs.Keyed.{AreKeyed}
 

@@ -5,15 +5,15 @@ use Rattle.std.specs.List.{list_any}
 use Rattle.std.proofs.lemmas.List.{take_more, take_all}
 use Rattle.std.proofs.lemmas.List.Elements.{All-head, All-tail, All-get_or, filter-append}
 use Rattle.std.proofs.lemmas.Option.{get_or_from_slice_get, slice_get_within}
-use Rattle.vault_model.specs.declared.place.Place.{Place}
-use Rattle.vault_model.specs.declared.claims.Item.{Item}
-use Rattle.vault_model.specs.declared.claims.Claim.{Claim}
-use Rattle.vault_model.specs.declared.ids.ClaimId.{ClaimId}
-use Rattle.vault_model.specs.Tree.{is_under, IsTree}
-use Rattle.vault_model.specs.Claims.{look_set, meet, claims_at}
-use Rattle.vault_model.specs.Vault.{AreThere}
-use Rattle.vault_model.proofs.Walks.{is_under-same}
-use Rattle.vault_model.proofs.Overlaps.{or_cases, or_left, or_right, eq_itself, same_test, comparable, meet_from, meet_to}
+use Rattle.vault_state.specs.declared.place.Place.{Place}
+use Rattle.vault_state.specs.declared.claims.Item.{Item}
+use Rattle.vault_state.specs.declared.claims.Claim.{Claim}
+use Rattle.vault_state.specs.declared.ids.ClaimId.{ClaimId}
+use Rattle.vault_state.specs.Tree.{is_under, IsTree}
+use Rattle.vault_state.specs.Claims.{look_set, meet, claims_at}
+use Rattle.vault_state.specs.Vault.{AreThere}
+use Rattle.vault_state.proofs.Walks.{is_under-same}
+use Rattle.vault_state.proofs.Overlaps.{or_cases, or_left, or_right, eq_itself, same_test, comparable, meet_from, meet_to}
 use Rattle.long_locks.specs.InLine.{is_in_line}
 
 -- an item of the list that passes a test, and passes any other in the list

@@ -12,7 +12,7 @@ use Rattle.std.specs.contracts.hash.FoldHasher as Fold
 use Rattle.indexmap.specs.contracts.columns.Columns as Columns
 use Rattle.indexmap.specs.contracts.index_table.IndexTable as IndexTable
 use Rattle.indexmap.specs.contracts.map.IndexMap as IndexMap
-use Rattle.vault_model.proofs.Sends.{fields, claim_id_send, claim_send}
+use Rattle.vault_state.proofs.Sends.{fields, claim_id_send, claim_send}
 use Rattle.lock_table.proofs.Sends.{table_send}
 use Rattle.long_locks.specs.contracts.kept.KeptClaim as KeptClaim
 use Rattle.long_locks.specs.contracts.kept.KeptClaim.TheInside as KeptInside

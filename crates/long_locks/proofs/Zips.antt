@@ -3,14 +3,14 @@ use Rattle.std.specs.Prelude.{◌≡◌, suc, ◌+◌, not, List, [], ◌∷◌,
 use Rattle.std.proofs.Common.{sym, ap, subst, ◌∙◌, cond}
 use Rattle.std.specs.List.{AllZip, position_or_len}
 use Rattle.std.specs.Option.{option_map}
-use Rattle.vault_model.specs.declared.place.Place.{Place}
-use Rattle.vault_model.specs.declared.claims.Item.{Item}
-use Rattle.vault_model.specs.declared.claims.Claim.{Claim}
-use Rattle.vault_model.specs.declared.ids.ClaimId.{ClaimId}
-use Rattle.vault_model.specs.Tree.{IsTree}
-use Rattle.vault_model.specs.Claims.{same_id, is_short, standing_by, standing_behind, claim_of, before, without, changed}
-use Rattle.vault_model.proofs.InPlace.{one_id, one_items}
-use Rattle.vault_model.specs.Vault.{AreThere}
+use Rattle.vault_state.specs.declared.place.Place.{Place}
+use Rattle.vault_state.specs.declared.claims.Item.{Item}
+use Rattle.vault_state.specs.declared.claims.Claim.{Claim}
+use Rattle.vault_state.specs.declared.ids.ClaimId.{ClaimId}
+use Rattle.vault_state.specs.Tree.{IsTree}
+use Rattle.vault_state.specs.Claims.{same_id, is_short, standing_by, standing_behind, claim_of, before, without, changed}
+use Rattle.vault_state.proofs.InPlace.{one_id, one_items}
+use Rattle.vault_state.specs.Vault.{AreThere}
 use Rattle.lock_table.specs.declared.locks.Lock.{Lock}
 use Rattle.lock_table.specs.declared.entry.Entry.{Entry}
 use Rattle.lock_table.specs.Tables.{standing_in, entries_without, long_entries, first_in_way, AreLocksOf, IsEntryOf, IsTableOf}

@@ -1,8 +1,8 @@
 -- Places on one way down from the library.
 use Rattle.std.specs.Prelude.{ℕ, Bool, ◌||◌, List}
-use Rattle.vault_model.specs.declared.place.Place.{Place}
-use Rattle.vault_model.specs.declared.claims.Item.{Item}
-use Rattle.vault_model.specs.Tree.{is_under}
+use Rattle.vault_state.specs.declared.place.Place.{Place}
+use Rattle.vault_state.specs.declared.claims.Item.{Item}
+use Rattle.vault_state.specs.Tree.{is_under}
 
 -- an item's place is under a place, or that place is under the item's
 abbrev pub is_in_line : List Place → ℕ → Item → Bool

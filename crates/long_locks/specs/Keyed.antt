@@ -1,7 +1,7 @@
 -- Claims kept by their ids.
 use Rattle.std.specs.Prelude.{◌≡◌, ℕ, List, All}
-use Rattle.vault_model.specs.declared.claims.Claim.{Claim}
-use Rattle.vault_model.specs.declared.ids.ClaimId.{ClaimId}
+use Rattle.vault_state.specs.declared.claims.Claim.{Claim}
+use Rattle.vault_state.specs.declared.ids.ClaimId.{ClaimId}
 
 -- claims in order, and the room for more
 pub record ClaimsSeen : Type 0 where

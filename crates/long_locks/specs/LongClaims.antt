@@ -1,11 +1,11 @@
 -- Lines of long claims alone. This project's own.
 use Rattle.std.specs.Prelude.{ℕ, ◌≤◌, List, [], length, map, All}
 use Rattle.std.specs.List.{IsDistinct}
-use Rattle.vault_model.specs.declared.place.Place.{Place}
-use Rattle.vault_model.specs.declared.claims.Claim.{Claim}
-use Rattle.vault_model.specs.Claims.{same_id}
-use Rattle.vault_model.specs.Vault.{IsClaim}
-use Rattle.vault_model.specs.Limits.{most_claims}
+use Rattle.vault_state.specs.declared.place.Place.{Place}
+use Rattle.vault_state.specs.declared.claims.Claim.{Claim}
+use Rattle.vault_state.specs.Claims.{same_id}
+use Rattle.vault_state.specs.Vault.{IsClaim}
+use Rattle.vault_state.specs.Limits.{most_claims}
 use Rattle.long_locks.specs.Lines.{LineSeen}
 use Rattle.long_locks.specs.declared.from_claims.FromClaimsError.{FromClaimsError}
 use Rattle.long_locks.specs.declared.from_claims.FromClaimsError.TheVariants.{NotWellFormed, NoMemory}

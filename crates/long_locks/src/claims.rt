@@ -1,8 +1,8 @@
 //! Claims by their ids, in line order.
 ghost use Rattle.std.specs.Prelude.{◌≡◌, ◌<◌, ◌++◌, ◌∷◌, [], true, not, is_some, length, position, slice_get, None, IsOk, IfOk, OnOk};
 ghost use Rattle.std.specs.Option.{option_copied};
-ghost use Rattle.vault_model.specs.declared.claims.Claim.{Claim};
-ghost use Rattle.vault_model.specs.Claims.{same_id, claim_of, without, changed, given_to, noted_as};
+ghost use Rattle.vault_state.specs.declared.claims.Claim.{Claim};
+ghost use Rattle.vault_state.specs.Claims.{same_id, claim_of, without, changed, given_to, noted_as};
 ghost use Rattle.long_locks.specs.Lines.{put_first, ends, left_by};
 
 use crate::ending::{Ending, ends};
@@ -11,7 +11,7 @@ use indexmap::IndexMap;
 use std::alloc::{Allocator, Global};
 use std::hash::{BuildHasherDefault, FoldHasher};
 use std::marker::Model;
-use vault_model::{Claim, ClaimId, Items, Name, NoMemory, Note};
+use vault_state::{Claim, ClaimId, Items, Name, NoMemory, Note};
 
 /// Claims in order, each found by its id without a search. Contracts see their list, and the room
 /// for more.

@@ -1,9 +1,9 @@
 //! Claims that end together.
 ghost use Rattle.std.specs.Prelude.{◌≡◌, ◌==◌, ◌+◌, List, map, true, false};
 ghost use Rattle.std.specs.List.{IsDistinct};
-ghost use Rattle.vault_model.specs.declared.place.Place.{Place};
-ghost use Rattle.vault_model.specs.declared.claims.Claim.{Claim};
-ghost use Rattle.vault_model.specs.Claims.{same_id};
+ghost use Rattle.vault_state.specs.declared.place.Place.{Place};
+ghost use Rattle.vault_state.specs.declared.claims.Claim.{Claim};
+ghost use Rattle.vault_state.specs.Claims.{same_id};
 ghost use Rattle.lock_table.specs.Tables.{IsTableOf};
 ghost use Rattle.long_locks.specs.declared.ending.Ending.{Ending};
 ghost use Rattle.long_locks.specs.Lines.{ends, left_by, left_behind};
@@ -11,7 +11,7 @@ ghost use Rattle.long_locks.specs.Lines.{ends, left_by, left_behind};
 use crate::claims::Claims;
 use lock_table::Table;
 use std::alloc::Allocator;
-use vault_model::{Claim, ClaimId, Owner};
+use vault_state::{Claim, ClaimId, Owner};
 
 /// Which claims end: those of a session, or all short ones.
 #[derive(Clone, Copy)]

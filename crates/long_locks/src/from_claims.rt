@@ -1,11 +1,11 @@
 //! A line made of stored long claims.
 ghost use Rattle.std.specs.Prelude.{◌≡◌, ◌≤◌, ◌↔◌, IsTrue, [], length, map, All, IfOk, IfErr, OnOk};
 ghost use Rattle.std.specs.List.{IsDistinct, list_any};
-ghost use Rattle.vault_model.specs.declared.claims.Claim.{Claim};
-ghost use Rattle.vault_model.specs.Claims.{same_id};
-ghost use Rattle.vault_model.specs.Limits.{most_claims};
-ghost use Rattle.vault_model.specs.Tree.{IsTree};
-ghost use Rattle.vault_model.specs.Vault.{AreThere, IsGiven, Owns, IsNoteOf, IsClaim};
+ghost use Rattle.vault_state.specs.declared.claims.Claim.{Claim};
+ghost use Rattle.vault_state.specs.Claims.{same_id};
+ghost use Rattle.vault_state.specs.Limits.{most_claims};
+ghost use Rattle.vault_state.specs.Tree.{IsTree};
+ghost use Rattle.vault_state.specs.Vault.{AreThere, IsGiven, Owns, IsNoteOf, IsClaim};
 ghost use Rattle.lock_table.specs.Tables.{IsTableOf};
 ghost use Rattle.long_locks.specs.LongClaims.{AreLongClaims, line_of, IsRefusalOf};
 
@@ -16,7 +16,7 @@ use design_tree::Tree;
 use lock_table::Table;
 use std::alloc::Allocator;
 use thiserror::Error;
-use vault_model::{Claim, ClaimId, Item, MAX_CLAIMS, NoMemory, Owner};
+use vault_state::{Claim, ClaimId, Item, MAX_CLAIMS, NoMemory, Owner};
 
 /// Why no line could be made of some claims.
 #[derive(Clone, Copy, Debug, PartialEq, Eq, Error)]

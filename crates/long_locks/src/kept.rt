@@ -1,10 +1,10 @@
 //! A boxed claim.
 ghost use Rattle.std.specs.Prelude.{◌≡◌, IfOk};
-ghost use Rattle.vault_model.specs.Claims.{given_to, noted_as};
+ghost use Rattle.vault_state.specs.Claims.{given_to, noted_as};
 
 use std::alloc::{AllocError, Allocator, Global};
 use std::marker::Model;
-use vault_model::{Claim, Items, Name, NoMemory, Note, Owner};
+use vault_state::{Claim, Items, Name, NoMemory, Note, Owner};
 
 /// A claim as a line keeps it: boxed, so that moving claims in the line is quick. Contracts see the claim.
 #[derive(Drop)]
@@ -13,7 +13,7 @@ pub(crate) struct KeptClaim<A: Allocator = Global> {
 }
 
 impl<A: Allocator> Model for KeptClaim<A> {
-    ghost use Rattle.vault_model.specs.declared.claims.Claim.{Claim};
+    ghost use Rattle.vault_state.specs.declared.claims.Claim.{Claim};
 
     ghost Value = { Claim };
 

@@ -5,7 +5,7 @@
 //! another designer, or changing its note, changes nothing else, and it keeps its position. The line lists exactly the claims that
 //! look at a place or at one under it (`claims_at`). A copy equals its source. A line is made of a list of long claims exactly if a
 //! vault may have that list (`from_claims`).
-//! Stands on: vault_model, design_tree, lock_modes, lock_table. Must not know: sessions beyond their numbers, drafts, files.
+//! Stands on: vault_state, design_tree, lock_modes, lock_table. Must not know: sessions beyond their numbers, drafts, files.
 //!
 //! Invariants:
 //! 1. `Line`: the tree over which a claim was weighed last is well formed.

@@ -2,13 +2,13 @@
 ghost use Rattle.std.specs.Prelude.{◌≡◌, ◌+◌, ◌<◌, ◌≤◌, List, [], ◌∷◌, ◌++◌, length, map, slice_get, is_some, None, Some, true, All, IfOk, OnOk, OnErr};
 ghost use Rattle.std.specs.Option.{option_copied};
 ghost use Rattle.std.specs.List.{IsDistinct};
-ghost use Rattle.vault_model.specs.declared.claims.Claim.{Claim};
-ghost use Rattle.vault_model.specs.declared.place.Place.{Place};
-ghost use Rattle.vault_model.specs.Tree.{IsTree};
-ghost use Rattle.vault_model.specs.declared.ids.ClaimId.TheVariants.{Long};
-ghost use Rattle.vault_model.specs.Claims.{same_id, standing_behind, standing_of, claim_of, without, covering, changed, given_to, noted_as, claims_at};
-ghost use Rattle.vault_model.specs.Vault.{AreThere};
-ghost use Rattle.vault_model.specs.Limits.{most_claims, last_number};
+ghost use Rattle.vault_state.specs.declared.claims.Claim.{Claim};
+ghost use Rattle.vault_state.specs.declared.place.Place.{Place};
+ghost use Rattle.vault_state.specs.Tree.{IsTree};
+ghost use Rattle.vault_state.specs.declared.ids.ClaimId.TheVariants.{Long};
+ghost use Rattle.vault_state.specs.Claims.{same_id, standing_behind, standing_of, claim_of, without, covering, changed, given_to, noted_as, claims_at};
+ghost use Rattle.vault_state.specs.Vault.{AreThere};
+ghost use Rattle.vault_state.specs.Limits.{most_claims, last_number};
 ghost use Rattle.lock_table.specs.Tables.{IsTableOf, extension_by};
 ghost use Rattle.long_locks.specs.Lines.{without_session, without_short, new_line, asked_long, asked_short, IsGrownFrom, in_way_of, put_first, extended_by};
 
@@ -20,7 +20,7 @@ use design_tree::Tree;
 use lock_table::{Extension, Table, lock_set};
 use std::alloc::{Allocator, Global};
 use std::marker::Model;
-use vault_model::{Claim, ClaimId, Items, Listing, Name, NoMemory, Note, Owner, PlaceId, Standing};
+use vault_state::{Claim, ClaimId, Items, Listing, Name, NoMemory, Note, Owner, PlaceId, Standing};
 
 /// The claims of a vault in order of arrival. Contracts see them as a list, with the last number
 /// given to a claim of each kind, and the tree over which a claim was weighed last.

@@ -1,16 +1,16 @@
 //! Which claims look at a place, or at one under it.
 ghost use Rattle.std.specs.Prelude.{◌≡◌, ◌<◌, ◌≤◌, ◌+◌, All, IfOk, OnOk, take, length};
 ghost use Rattle.std.specs.List.{list_any};
-ghost use Rattle.vault_model.specs.declared.claims.Claim.{Claim};
-ghost use Rattle.vault_model.specs.Tree.{is_under};
-ghost use Rattle.vault_model.specs.Claims.{look_set, meet, claims_at};
-ghost use Rattle.vault_model.specs.Vault.{AreThere};
+ghost use Rattle.vault_state.specs.declared.claims.Claim.{Claim};
+ghost use Rattle.vault_state.specs.Tree.{is_under};
+ghost use Rattle.vault_state.specs.Claims.{look_set, meet, claims_at};
+ghost use Rattle.vault_state.specs.Vault.{AreThere};
 ghost use Rattle.long_locks.specs.InLine.{is_in_line};
 
 use crate::claims::Claims;
 use design_tree::Tree;
 use std::alloc::Allocator;
-use vault_model::{ClaimId, Item, NoMemory, PlaceId};
+use vault_state::{ClaimId, Item, NoMemory, PlaceId};
 
 /// Whether an item's place and another place are the same, or one lies under the other.
 fn is_in_line<A: Allocator>(tree: &Tree<A>, item: &Item, place: PlaceId) -> bool

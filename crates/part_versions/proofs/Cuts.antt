@@ -9,7 +9,7 @@ use Rattle.std.proofs.lemmas.List.{length_push, get_or_push, get_or_append_left,
 use Rattle.std.proofs.lemmas.List.Concat.{flat_map-cons}
 use Rattle.std.proofs.lemmas.List.FromFn.{length-map-range_with_len, get_or-map-range_with_len, sum_by-map-range_with_len_more, fill_by_all}
 use Rattle.std.proofs.lemmas.Option.{slice_get-get_or, slice_get_past}
-use Rattle.vault_model.specs.Shelf.{content_weight, versions_weight}
+use Rattle.vault_state.specs.Shelf.{content_weight, versions_weight}
 use Rattle.part_versions.specs.Cuts.{spelled, end_of, spelling_at, content_at, contents_of, IsCut}
 
 pub length-contents_of : (ends bytes : List ℕ) → length (contents_of ends bytes) ≡ length ends

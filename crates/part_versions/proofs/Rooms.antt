@@ -5,12 +5,12 @@ use Rattle.std.proofs.lemmas.Bool.{lt-leb}
 use Rattle.std.proofs.lemmas.List.Folds.{list_all_more, list_all_at}
 use Rattle.std.proofs.lemmas.List.Sums.{AllPass-from_list_all, count_by-le-length, sum_by_more, sum_by_more_le}
 use Rattle.std.proofs.lemmas.Bool.Decides.{nat_tests}
-use Rattle.vault_model.specs.Shelf.{Draft, versions_of, shelved_all, content_weight, drafts_weight, weight, is_shelvable}
-use Rattle.vault_model.proofs.Overlaps.{and_both}
-use Rattle.vault_model.proofs.Shelves.{are_short, few_at, have_room, le_true, shelvable-is, shelf_stays, weight-shelved_all}
+use Rattle.vault_state.specs.Shelf.{Draft, versions_of, shelved_all, content_weight, drafts_weight, weight, is_shelvable}
+use Rattle.vault_state.proofs.Overlaps.{and_both}
+use Rattle.vault_state.proofs.Shelves.{are_short, few_at, have_room, le_true, shelvable-is, shelf_stays, weight-shelved_all}
 use Rattle.part_versions.specs.Kept.{IsSoundShelf}
-use Rattle.vault_model.specs.Limits.{longest_content, most_versions, most_weight}
-use Rattle.vault_model.proofs.Lists.{and_never}
+use Rattle.vault_state.specs.Limits.{longest_content, most_versions, most_weight}
+use Rattle.vault_state.proofs.Lists.{and_never}
 use Rattle.part_versions.specs.Rooms.{weight_with, count_of}
 
 -- there is room for a place's drafts if there is room for as many as all drafts

@@ -3,7 +3,7 @@ use denote.RattleType.{RattleType}
 use denote.Param.Send.{IsSend, Frees, struct_send, recorded_send, view_send}
 use denote.Struct.Declared.{shape}
 use Rattle.std.specs.declared.alloc.Allocator.{Ghosts}
-use Rattle.vault_model.proofs.Sends.{fields}
+use Rattle.vault_state.proofs.Sends.{fields}
 use Rattle.part_versions.specs.contracts.part.Part as Part
 use Rattle.part_versions.specs.contracts.shelf.Shelf as Shelf
 use Rattle.part_versions.specs.contracts.shelf.Shelf.TheInside as ShelfInside

@@ -7,9 +7,9 @@ use Rattle.std.proofs.lemmas.List.{get_or-set_same, get_or-set_other, get_or_pas
 use Rattle.std.proofs.Math.Seq.{drop-cons}
 use Rattle.std.proofs.lemmas.List.Elements.{All-nil, All-cons}
 use Rattle.std.proofs.lemmas.List.Sums.{sum_by_more_le}
-use Rattle.vault_model.specs.Shelf.{Draft, versions_of, shelved, shelved_all, content_weight, drafts_weight, versions_weight, weight}
-use Rattle.vault_model.specs.Limits.{most_weight}
-use Rattle.vault_model.proofs.Shelves.{versions_of-shelved, versions_of-shelved_other, length-shelved, weight-shelved_all}
+use Rattle.vault_state.specs.Shelf.{Draft, versions_of, shelved, shelved_all, content_weight, drafts_weight, versions_weight, weight}
+use Rattle.vault_state.specs.Limits.{most_weight}
+use Rattle.vault_state.proofs.Shelves.{versions_of-shelved, versions_of-shelved_other, length-shelved, weight-shelved_all}
 use Rattle.part_versions.specs.Taken.{but_last, taken, taken_all}
 
 -- a place in the list gets its version where it stands

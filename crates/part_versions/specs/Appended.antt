@@ -1,6 +1,6 @@
 -- Why drafts were not appended. This project's own.
 use Rattle.std.specs.Prelude.{◌≡◌, ℕ, Bool, true, false, List}
-use Rattle.vault_model.specs.Shelf.{Draft, is_shelvable}
+use Rattle.vault_state.specs.Shelf.{Draft, is_shelvable}
 use Rattle.part_versions.specs.declared.shelf.NotAppended.{NotAppended}
 use Rattle.part_versions.specs.declared.shelf.NotAppended.TheVariants.{Limit, NoMemory}
 use Rattle.part_versions.specs.declared.shelf.AppendError.{AppendError}

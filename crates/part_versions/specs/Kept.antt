@@ -1,6 +1,6 @@
 -- What always holds of a shelf's versions and of its weight. This project's own.
 use Rattle.std.specs.Prelude.{◌≡◌, ℕ, List}
-use Rattle.vault_model.specs.Shelf.{weight, IsShelf}
+use Rattle.vault_state.specs.Shelf.{weight, IsShelf}
 
 -- the shelf is well formed, and the stored weight is its weight
 pub record IsSoundShelf (shelf : List (List (List ℕ))) (weight_known : ℕ) : Type 0 where

@@ -1,8 +1,8 @@
 -- What drafts need: short contents, a shelf that isn't too heavy with them, and room for versions. This project's own.
 use Rattle.std.specs.Prelude.{ℕ, ◌+◌, Bool, ◌&&◌, ◌==◌, nat_le, if◌then◌else◌, List, length, count_by, Option, Some, None}
 use Rattle.std.specs.List.{list_all}
-use Rattle.vault_model.specs.Shelf.{Draft, versions_of, drafts_weight}
-use Rattle.vault_model.specs.Limits.{longest_content, most_versions, most_weight}
+use Rattle.vault_state.specs.Shelf.{Draft, versions_of, drafts_weight}
+use Rattle.vault_state.specs.Limits.{longest_content, most_versions, most_weight}
 
 -- how many of the drafts are for a place
 abbrev pub count_of : List Draft → ℕ → ℕ

@@ -1,6 +1,6 @@
 -- Removing appended versions again. This project's own.
 use Rattle.std.specs.Prelude.{ℕ, ◌-◌, List, [], ◌∷◌, length, take, slice_set}
-use Rattle.vault_model.specs.Shelf.{Draft, versions_of}
+use Rattle.vault_state.specs.Shelf.{Draft, versions_of}
 
 -- all versions but the last
 abbrev pub but_last : List (List ℕ) → List (List ℕ)

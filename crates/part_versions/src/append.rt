@@ -1,12 +1,12 @@
 //! Drafts appended to parts: all, or none.
 ghost use Rattle.std.specs.Prelude.{◌≡◌, ℕ, ◌+◌, ◌-◌, ◌<◌, ◌≤◌, List, [], ◌∷◌, ◌++◌, length, vec_len, vec_capacity, replicate, take, All, OnOk, OnErr};
-ghost use Rattle.vault_model.specs.Shelf.{Draft, shelved, shelved_all, content_weight, drafts_weight, weight};
-ghost use Rattle.vault_model.specs.Limits.{longest_content, most_weight};
+ghost use Rattle.vault_state.specs.Shelf.{Draft, shelved, shelved_all, content_weight, drafts_weight, weight};
+ghost use Rattle.vault_state.specs.Limits.{longest_content, most_weight};
 ghost use Rattle.part_versions.specs.Taken.{taken_all};
 
 use crate::part::Part;
 use std::alloc::{AllocError, Allocator};
-use vault_model::{DraftIn, PlaceId};
+use vault_state::{DraftIn, PlaceId};
 
 // Appends parts without versions, up to this length. The list has room for it.
 fn pad<A: Allocator + Copy>(parts: &mut Vec<Part<A>, A>, len: usize)

@@ -1,7 +1,7 @@
 //! Laws of the shelf's definitions.
 ghost use Rattle.std.specs.Prelude.{◌≡◌, ℕ, ◌+◌, ◌≤◌, ◌==◌, ◌↔◌, true, List, [], ◌++◌, length, map, filter, All};
-ghost use Rattle.vault_model.specs.Shelf.{Draft, versions_of, shelved_all, weight, drafts_weight, is_shelvable, IsShelf};
-ghost use Rattle.vault_model.specs.Limits.{longest_content, most_versions, most_weight};
+ghost use Rattle.vault_state.specs.Shelf.{Draft, versions_of, shelved_all, weight, drafts_weight, is_shelvable, IsShelf};
+ghost use Rattle.vault_state.specs.Limits.{longest_content, most_versions, most_weight};
 
 /// After shelving, a place has the versions that it had, then the contents of its drafts in order, and nothing else.
 pub fn drafts_follow_versions()

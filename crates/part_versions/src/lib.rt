@@ -3,7 +3,7 @@
 //! Promises: a shelf holds exactly the lists of contents that the definitions say. Drafts become versions all or none, in order. They
 //! are refused at a limit exactly if they would exceed one, and the same list comes back (`append_all`, `laws`). One content may be
 //! appended alone (`append`).
-//! Stands on: vault_model. Must not know: places of a tree, claims, who saved a draft.
+//! Stands on: vault_state. Must not know: places of a tree, claims, who saved a draft.
 //!
 //! Invariants:
 //! 1. `Shelf`: it is well formed: contents are short, no part has too many, all together aren't too heavy, the last place of the

@@ -1,12 +1,12 @@
 //! Whether drafts may be appended.
 ghost use Rattle.std.specs.Prelude.{◌≡◌, ℕ, List, [], ◌∷◌, ◌+◌, ◌≤◌, nat_le, length, All};
-ghost use Rattle.vault_model.specs.Shelf.{draft_at, versions_of};
-ghost use Rattle.vault_model.specs.Limits.{most_versions, most_weight};
+ghost use Rattle.vault_state.specs.Shelf.{draft_at, versions_of};
+ghost use Rattle.vault_state.specs.Limits.{most_versions, most_weight};
 ghost use Rattle.part_versions.specs.Rooms.{count_of, weight_with, have_room};
 
 use crate::part::Part;
 use std::alloc::Allocator;
-use vault_model::{DraftIn, EXTRA_WEIGHT, LONGEST_CONTENT, MAX_VERSIONS, MAX_WEIGHT, PlaceId};
+use vault_state::{DraftIn, EXTRA_WEIGHT, LONGEST_CONTENT, MAX_VERSIONS, MAX_WEIGHT, PlaceId};
 
 /// The weight of a shelf of this weight once the drafts are added, if no content is too long and
 /// the sum isn't too much.

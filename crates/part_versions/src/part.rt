@@ -1,9 +1,9 @@
 //! The versions of one part.
 ghost use Rattle.std.specs.Prelude.{◌≡◌, ℕ, ◌+◌, ◌-◌, ◌/◌, ◌≤◌, max, List, [], ◌∷◌, ◌++◌, length, take, slice_get, vec_len, vec_capacity, OnOk, OnErr};
 ghost use Rattle.std.specs.Option.{option_copied};
-ghost use Rattle.vault_model.specs.Shelf.{content_weight, versions_weight};
+ghost use Rattle.vault_state.specs.Shelf.{content_weight, versions_weight};
 ghost use Rattle.std.specs.List.{flat_map};
-ghost use Rattle.vault_model.specs.Limits.{longest_content, most_weight};
+ghost use Rattle.vault_state.specs.Limits.{longest_content, most_weight};
 ghost use Rattle.part_versions.specs.Cuts.{end_of, spelled};
 
 use std::alloc::{AllocError, Allocator, Global};

@@ -1,7 +1,7 @@
 //! The shelf.
 ghost use Rattle.std.specs.Prelude.{◌≡◌, ℕ, true, None, List, [], ◌∷◌, length, OnOk, OnErr, IfOk, IfErr};
 ghost use Rattle.std.specs.Option.{option_copied};
-ghost use Rattle.vault_model.specs.Shelf.{versions_of, numbered, weight, draft_at, shelved, shelved_all, is_shelvable, IsShelf};
+ghost use Rattle.vault_state.specs.Shelf.{versions_of, numbered, weight, draft_at, shelved, shelved_all, is_shelvable, IsShelf};
 ghost use Rattle.std.specs.List.{flat_map};
 ghost use Rattle.part_versions.specs.Appended.{IsRefusalOf, IsWhyNot};
 ghost use Rattle.part_versions.specs.Cuts.{spelled};
@@ -12,7 +12,7 @@ use crate::part::Part;
 use std::alloc::{Allocator, Global};
 use std::marker::Model;
 use thiserror::Error;
-use vault_model::{Drafts, NoMemory, PlaceId};
+use vault_state::{Drafts, NoMemory, PlaceId};
 
 /// The versions of all parts. Contracts see them as a list with the contents of each place.
 #[derive(Drop)]

@@ -5,7 +5,7 @@ use Rattle.std.specs.declared.alloc.Allocator.{Ghosts}
 use Rattle.std.proofs.Crossing.{crosses as locks}
 use Rattle.crossbeam_channel.specs.contracts.channel.Receiver as Receiver
 use Rattle.crossbeam_channel.specs.contracts.channel.Sender as Sender
-use Rattle.vault_model.proofs.Sends.{fields}
+use Rattle.vault_state.proofs.Sends.{fields}
 use Rattle.tcp_door.specs.contracts.bells.Bell as Bell
 use Rattle.tcp_door.specs.contracts.door.Accepted as Accepted
 use Rattle.tcp_door.specs.contracts.door.Crowd as Crowd

@@ -1,6 +1,6 @@
 //! The book, given commands line by line and looked at between the lines.
 ghost use Rattle.std.specs.Prelude.{◌+◌};
-ghost use Rattle.vault_model.specs.Vault.{CountsBelow};
+ghost use Rattle.vault_state.specs.Vault.{CountsBelow};
 
 mod alike;
 mod effects;

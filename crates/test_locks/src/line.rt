@@ -1,7 +1,7 @@
 ghost use Rattle.std.specs.Prelude.{◌<◌, List, IsTrue, length};
-ghost use Rattle.vault_model.specs.declared.place.Place.{Place};
-ghost use Rattle.vault_model.specs.Vault.{AreThere};
-ghost use Rattle.vault_model.specs.Limits.{most_claims, last_number};
+ghost use Rattle.vault_state.specs.declared.place.Place.{Place};
+ghost use Rattle.vault_state.specs.Vault.{AreThere};
+ghost use Rattle.vault_state.specs.Limits.{most_claims, last_number};
 ghost use Rattle.long_locks.specs.Lines.{IsGrownFrom};
 
 mod calls;
@@ -15,7 +15,7 @@ use lock_table::Extension;
 use long_locks::Line;
 use std::alloc::Allocator;
 use std::process::Abort;
-use vault_model::{Claim, ClaimId, Items, Name, NoMemory, Note, Owner, PlaceId, Standing};
+use vault_state::{Claim, ClaimId, Items, Name, NoMemory, Note, Owner, PlaceId, Standing};
 
 const C1: ClaimId = ClaimId::Long(1);
 

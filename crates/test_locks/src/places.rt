@@ -1,12 +1,12 @@
 ghost use Rattle.std.specs.Prelude.{◌↔◌, ◌≤◌, IsTrue, length};
-ghost use Rattle.vault_model.specs.Vault.{AreThere};
+ghost use Rattle.vault_state.specs.Vault.{AreThere};
 
 use Kind::{Assembly, Part, Project};
 use design_tree::Tree;
 use std::alloc::Allocator;
 use std::process::Abort;
 use test_memory::Outcome;
-use vault_model::{Intent, Item, Items, Kind, Name, NoMemory, PlaceId};
+use vault_state::{Intent, Item, Items, Kind, Name, NoMemory, PlaceId};
 
 /// The number of a place, a name, and the kinds of new places under it: each in the one before, all of this name.
 pub(crate) type Chain = (u32, &'static str, &'static [Kind]);

@@ -12,7 +12,7 @@ use lock_modes::Mode;
 use lock_table::{LockSet, lock_set};
 use std::alloc::Global;
 use std::process::Abort;
-use vault_model::{Intent, Kind, PlaceId};
+use vault_state::{Intent, Kind, PlaceId};
 
 fn locks_of(rt: &impl Abort, tree: &Tree, wishes: &[Wish]) -> LockSet {
     let items = items_of(rt, wishes);

@@ -3,7 +3,7 @@
 //!
 //! Promises: nothing; it is safe, and it ends. It looks at the vault from outside, as a client that keeps its own list of all
 //! commands. The first difference is kept, and nothing is done about it.
-//! Stands on: vault_model, vault_device, vault_checkout, design_tree, long_locks, vault_store, group_commit, vault_lines,
+//! Stands on: vault_state, vault_model, vault_device, vault_checkout, design_tree, long_locks, vault_store, group_commit, vault_lines,
 //! vault_inspector. Must not know: how any of these keeps what it keeps; what is done to a vault.
 //! Start at: docs/SIMULATION.md; judge.rt, history.rt and world.rt.
 #![tactic(auto)]

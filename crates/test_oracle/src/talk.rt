@@ -1,6 +1,6 @@
 //! A book that is given commands.
 ghost use Rattle.std.specs.Prelude.{◌+◌};
-ghost use Rattle.vault_model.specs.Vault.{CountsBelow};
+ghost use Rattle.vault_state.specs.Vault.{CountsBelow};
 
 use std::alloc::Global;
 use vault_checkout::Book;

@@ -2,7 +2,7 @@
 //!
 //! Promises: nothing; it has no public function.
 //! Only tested: names, paths and notes, copies, a tree's and a shelf's calls, and each of their memory requests refused.
-//! Stands on: vault_model, design_tree, part_versions.
+//! Stands on: vault_state, vault_model, design_tree, part_versions.
 //! Start at: tree.rt, `Step`; then memory.rt.
 #![tactic(auto)]
 

@@ -3,10 +3,10 @@
 use std::alloc::Global;
 use std::process::Abort;
 use test_memory::{Outcome, Refusing};
-use vault_model::split::cut;
 use vault_model::{
     ClaimId, Command, Effect, Intent, Listing, Name, Note, Path, PathItem, PlaceId, Refusal, Reply,
 };
+use vault_state::split::cut;
 
 /// Whether a word is read as it must be: as a name or not, and as a path of this number of names or
 /// as none.

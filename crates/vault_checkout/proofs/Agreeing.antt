@@ -1,29 +1,29 @@
 -- The types of check-outs agree with the line after each command and each effect.
-use Rattle.vault_model.specs.Claims.{new_check_out}
+use Rattle.vault_state.specs.Claims.{new_check_out}
 use Rattle.std.specs.Prelude.{◌≡◌, ℕ, ◌+◌, ◌<◌, ◌≤◌, ◌==◌, nat_lt, Bool, true, false, not, List, [], ◌∷◌, ◌++◌, length, map, filter, Option, None, Some, IfSome, is_some, All, refl}
 use Rattle.std.specs.List.{AllByRecursion}
 use Rattle.std.specs.Option.{option_map_or}
 use Rattle.std.proofs.Common.{arith, ap, sym, subst, cond, ◌∙◌, append-nil}
 use Rattle.std.proofs.lemmas.Bool.Decides.{nat_tests}
 use Rattle.std.proofs.lemmas.List.Elements.{All-nil, All-cons, All-head, All-tail, All-weaker, All-filter, All-push, All-map}
-use Rattle.vault_model.specs.declared.place.Place.{Place}
-use Rattle.vault_model.specs.declared.claims.Item.{Item}
-use Rattle.vault_model.specs.declared.claims.Claim.{Claim}
-use Rattle.vault_model.specs.declared.claims.Owner.{Owner}
-use Rattle.vault_model.specs.declared.claims.Owner.TheVariants as owners
-use Rattle.vault_model.specs.declared.claims.Standing.TheVariants as standings
-use Rattle.vault_model.specs.declared.ids.ClaimId.{ClaimId}
-use Rattle.vault_model.specs.declared.ids.ClaimId.TheVariants.{Long, Short}
-use Rattle.vault_model.specs.Claims.{same_id, claim_of, without, without_session, without_short, is_session, is_short, standing_of, standing_behind, put_first, in_way_of, changed}
-use Rattle.vault_model.proofs.InPlace.{standing_of-changed, stands-changed}
-use Rattle.vault_model.specs.Shelf.{Draft}
-use Rattle.vault_model.specs.Drafts.{SavedDraft, saved_by, drafts_of}
-use Rattle.vault_model.specs.Vault.{Vault, IsVault, IsClaim, AreThere, AreDrafts, IsDraft, Owns, IsGiven}
-use Rattle.vault_model.proofs.Overlaps.{eq_from}
-use Rattle.vault_model.proofs.Stays.{same_id_is, same_id_turned, own_id, standing_of-push, held_kept, held_there, claim_there}
+use Rattle.vault_state.specs.declared.place.Place.{Place}
+use Rattle.vault_state.specs.declared.claims.Item.{Item}
+use Rattle.vault_state.specs.declared.claims.Claim.{Claim}
+use Rattle.vault_state.specs.declared.claims.Owner.{Owner}
+use Rattle.vault_state.specs.declared.claims.Owner.TheVariants as owners
+use Rattle.vault_state.specs.declared.claims.Standing.TheVariants as standings
+use Rattle.vault_state.specs.declared.ids.ClaimId.{ClaimId}
+use Rattle.vault_state.specs.declared.ids.ClaimId.TheVariants.{Long, Short}
+use Rattle.vault_state.specs.Claims.{same_id, claim_of, without, without_session, without_short, is_session, is_short, standing_of, standing_behind, put_first, in_way_of, changed}
+use Rattle.vault_state.proofs.InPlace.{standing_of-changed, stands-changed}
+use Rattle.vault_state.specs.Shelf.{Draft}
+use Rattle.vault_state.specs.Drafts.{SavedDraft, saved_by, drafts_of}
+use Rattle.vault_state.specs.Vault.{Vault, IsVault, IsClaim, AreThere, AreDrafts, IsDraft, Owns, IsGiven}
+use Rattle.vault_state.proofs.Overlaps.{eq_from}
+use Rattle.vault_state.proofs.Stays.{same_id_is, same_id_turned, own_id, standing_of-push, held_kept, held_there, claim_there}
 use Rattle.vault_model.proofs.Fronts.{held_front}
-use Rattle.vault_model.proofs.Grown.{standing_of-grown}
-use Rattle.vault_model.proofs.Lists.{All-back}
+use Rattle.vault_state.proofs.Grown.{standing_of-grown}
+use Rattle.vault_state.proofs.Lists.{All-back}
 use Rattle.check_outs.specs.declared.any.AnyCheckOut.{AnyCheckOut}
 use Rattle.check_outs.specs.declared.any.AnyCheckOut.TheVariants.{Waiting, Held}
 use Rattle.check_outs.specs.Typed.{number_of, is_granted, own_drafts, marked, saved, check_out_of, without_check_out, saving, with_saved, is_open, is_held_standing, is_holding, granted_if, granted, recalled_unless, recalled, IsAscending, Agrees}

@@ -4,23 +4,23 @@ use Rattle.std.proofs.Common.{arith, cond, subst, ap, ◌∙◌}
 use Rattle.std.specs.Option.{option_and_then}
 use Rattle.std.proofs.lemmas.Bool.Decides.{nat_tests}
 use Rattle.std.proofs.lemmas.List.Elements.{All-append}
-use Rattle.vault_model.specs.declared.claims.Item.{Item}
-use Rattle.vault_model.specs.Tree.{child, is_part, is_full}
-use Rattle.vault_model.specs.Limits.{most_items, most_claims, last_number}
-use Rattle.vault_model.specs.Vault.{Vault, IsVault, IsClaim, AreThere}
+use Rattle.vault_state.specs.declared.claims.Item.{Item}
+use Rattle.vault_state.specs.Tree.{child, is_part, is_full}
+use Rattle.vault_state.specs.Limits.{most_items, most_claims, last_number}
+use Rattle.vault_state.specs.Vault.{Vault, IsVault, IsClaim, AreThere}
 use Rattle.vault_model.specs.After.{only_if, are_there, may_ask, may_make, may_extend, drafts_held, after_extended, after_saved, after_checked_in}
-use Rattle.vault_model.specs.declared.claims.Claim.{Claim}
-use Rattle.vault_model.specs.declared.ids.ClaimId.TheVariants.{Long}
-use Rattle.vault_model.specs.Claims.{claim_of, is_held, change_set, put_first}
-use Rattle.vault_model.specs.Shelf.{is_shelvable}
-use Rattle.vault_model.specs.Drafts.{drafts_of, new_draft}
+use Rattle.vault_state.specs.declared.claims.Claim.{Claim}
+use Rattle.vault_state.specs.declared.ids.ClaimId.TheVariants.{Long}
+use Rattle.vault_state.specs.Claims.{claim_of, is_held, change_set, put_first}
+use Rattle.vault_state.specs.Shelf.{is_shelvable}
+use Rattle.vault_state.specs.Drafts.{drafts_of, new_draft}
 use Rattle.vault_model.specs.Step.{may_save}
 use Rattle.vault_model.specs.Changes.{with_items, with_content, with_versions}
 use Rattle.vault_checkout.specs.Applied.{held_at}
-use Rattle.vault_model.proofs.Overlaps.{eq_from, and_both}
+use Rattle.vault_state.proofs.Overlaps.{eq_from, and_both}
 use Rattle.vault_model.proofs.Durable.{there_all}
-use Rattle.vault_model.proofs.Stays.{claim_there}
-use Rattle.vault_model.proofs.Lists.{not_false}
+use Rattle.vault_state.proofs.Stays.{claim_there}
+use Rattle.vault_state.proofs.Lists.{not_false}
 
 pub record MayAsk (w : Vault) (number : ℕ) (items : List Item) : Type 0 where
   pub next : number ≡ w.last_long + 1

@@ -1,18 +1,18 @@
 -- What every book keeps, through an extension or its refusal.
 use Rattle.std.specs.Prelude.{◌≡◌, ◌≤◌, List, ◌++◌, length, map, Option, None, Some, is_some, true, refl}
 use Rattle.std.proofs.Common.{arith, ap, sym, subst, length-append}
-use Rattle.vault_model.specs.declared.claims.Claim.{Claim}
-use Rattle.vault_model.specs.declared.claims.Item.{Item}
-use Rattle.vault_model.specs.declared.claims.Standing.TheVariants.{Held}
-use Rattle.vault_model.specs.declared.ids.ClaimId.{ClaimId}
-use Rattle.vault_model.specs.Limits.{most_items}
-use Rattle.vault_model.specs.Claims.{claim_of, standing_of, in_way_of, put_first}
-use Rattle.vault_model.specs.Vault.{Vault, AreThere, AreDrafts, IsClaim, IsVault}
+use Rattle.vault_state.specs.declared.claims.Claim.{Claim}
+use Rattle.vault_state.specs.declared.claims.Item.{Item}
+use Rattle.vault_state.specs.declared.claims.Standing.TheVariants.{Held}
+use Rattle.vault_state.specs.declared.ids.ClaimId.{ClaimId}
+use Rattle.vault_state.specs.Limits.{most_items}
+use Rattle.vault_state.specs.Claims.{claim_of, standing_of, in_way_of, put_first}
+use Rattle.vault_state.specs.Vault.{Vault, AreThere, AreDrafts, IsClaim, IsVault}
 use Rattle.vault_model.specs.After.{drafts_held}
 use Rattle.vault_model.specs.Changes.{with_items}
 use Rattle.vault_model.proofs.Kept.{kept_first}
 use Rattle.vault_model.proofs.DraftsKept.{drafts_first, drafts_put_first}
-use Rattle.vault_model.proofs.Stays.{held_there, claim_there}
+use Rattle.vault_state.proofs.Stays.{held_there, claim_there}
 use Rattle.long_locks.specs.Lines.{extended_by}
 use Rattle.check_outs.specs.declared.any.AnyCheckOut.{AnyCheckOut}
 use Rattle.check_outs.specs.Typed.{granted, recalled, saved, Agrees}

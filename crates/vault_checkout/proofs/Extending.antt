@@ -1,16 +1,16 @@
 -- What an extension comes to, from what was looked at.
 use Rattle.std.proofs.Common.{◌≡◌, ◌∙◌, ◌+◌, ◌++◌, ◌==◌, ◌||◌, nat_lt, List, length, true, false, Option, Some, None, Ok, Err, refl, sym, ap}
-use Rattle.vault_model.specs.declared.claims.Claim.{Claim}
-use Rattle.vault_model.specs.declared.claims.Item.{Item}
-use Rattle.vault_model.specs.declared.claims.PathItem.{PathItem}
-use Rattle.vault_model.specs.declared.ids.ClaimId.{ClaimId}
-use Rattle.vault_model.specs.declared.session.Session.{Session}
+use Rattle.vault_state.specs.declared.claims.Claim.{Claim}
+use Rattle.vault_state.specs.declared.claims.Item.{Item}
+use Rattle.vault_state.specs.declared.claims.PathItem.{PathItem}
+use Rattle.vault_state.specs.declared.ids.ClaimId.{ClaimId}
+use Rattle.vault_state.specs.declared.session.Session.{Session}
 use Rattle.vault_model.specs.declared.replies.Refusal.{Refusal}
 use Rattle.vault_model.specs.declared.replies.Refusal.TheVariants.{ItemCount, NoPlace, Overlaps}
 use Rattle.vault_model.specs.declared.replies.Reply.TheVariants as replies
-use Rattle.vault_model.specs.Vault.{Vault}
-use Rattle.vault_model.specs.Limits.{most_items}
-use Rattle.vault_model.specs.Claims.{in_way_of}
+use Rattle.vault_state.specs.Vault.{Vault}
+use Rattle.vault_state.specs.Limits.{most_items}
+use Rattle.vault_state.specs.Claims.{in_way_of}
 use Rattle.lock_table.specs.declared.entry.Extension.{Extension}
 use Rattle.lock_table.specs.declared.entry.Extension.TheVariants.{Done, InTheWay}
 use Rattle.lock_table.specs.Tables.{extension_by}

@@ -4,11 +4,11 @@ use Rattle.std.proofs.Common.{ap, sym, refl, subst, ◌∙◌, arith, add-one, g
 use Rattle.std.proofs.Math.Seq.{take-suc}
 use Rattle.std.proofs.lemmas.List.{drop_more, nil_from_length}
 use Rattle.std.proofs.lemmas.List.Elements.{All-nil, All-get_or, All-take}
-use Rattle.vault_model.specs.declared.place.Place.{Place}
-use Rattle.vault_model.specs.declared.claims.Claim.{Claim}
-use Rattle.vault_model.specs.declared.claims.Item.{Item}
-use Rattle.vault_model.specs.Shelf.{Draft}
-use Rattle.vault_model.proofs.Overlaps.{eq_from}
+use Rattle.vault_state.specs.declared.place.Place.{Place}
+use Rattle.vault_state.specs.declared.claims.Claim.{Claim}
+use Rattle.vault_state.specs.declared.claims.Item.{Item}
+use Rattle.vault_state.specs.Shelf.{Draft}
+use Rattle.vault_state.proofs.Overlaps.{eq_from}
 use Rattle.check_outs.specs.CheckOuts.{IsRising}
 use Rattle.check_outs.specs.Parts.{MayBe, MayHave, EachMayHave}
 

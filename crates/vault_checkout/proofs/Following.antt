@@ -3,7 +3,7 @@ use Rattle.std.specs.Prelude.{◌≡◌, Result, Ok, Err, OnErr, refl}
 use Rattle.std.proofs.Common.{subst, sym}
 use Rattle.std.specs.Result.{IsErrAnd}
 use Rattle.vault_model.specs.declared.replies.Refusal.{Refusal}
-use Rattle.vault_model.specs.Vault.{Vault}
+use Rattle.vault_state.specs.Vault.{Vault}
 use Rattle.vault_model.specs.Step.{Outcome}
 use Rattle.vault_checkout.specs.declared.done.Done.{Done}
 use Rattle.check_outs.specs.declared.stop.Stop.{Stop}

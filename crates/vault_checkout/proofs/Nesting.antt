@@ -1,14 +1,14 @@
 -- What `nest` decides, from what it looked at.
 use Rattle.std.specs.Prelude.{◌≡◌, ℕ, ◌+◌, true, false, List, length, Option, Some, Ok, Err, refl}
-use Rattle.vault_model.specs.declared.session.Session.{Session}
+use Rattle.vault_state.specs.declared.session.Session.{Session}
 use Rattle.vault_model.specs.declared.effects.Effect.TheVariants as effects
 use Rattle.vault_model.specs.declared.replies.Reply.TheVariants as replies
 use Rattle.vault_model.specs.declared.replies.Refusal.{Refusal}
 use Rattle.vault_model.specs.declared.replies.Refusal.TheVariants.{WrongKind}
-use Rattle.vault_model.specs.declared.place.Kind.TheVariants.{Assembly}
-use Rattle.vault_model.specs.Path.{front, last}
-use Rattle.vault_model.specs.Tree.{find_place, is_part, may_nest_under}
-use Rattle.vault_model.specs.Vault.{Vault}
+use Rattle.vault_state.specs.declared.place.Kind.TheVariants.{Assembly}
+use Rattle.vault_state.specs.Path.{front, last}
+use Rattle.vault_state.specs.Tree.{find_place, is_part, may_nest_under}
+use Rattle.vault_state.specs.Vault.{Vault}
 use Rattle.vault_model.specs.Changes.{with_place}
 use Rattle.vault_model.specs.Step.{admitted, chained, nest}
 

@@ -5,19 +5,19 @@ use Rattle.std.specs.Option.{option_map_or}
 use Rattle.std.proofs.Common.{arith, ap, sym, subst, cond, ◌∙◌, append_assoc}
 use Rattle.std.proofs.lemmas.Bool.Decides.{nat_tests}
 use Rattle.std.proofs.lemmas.List.Elements.{All-nil, All-cons, All-head, All-tail, All-weaker, All-append}
-use Rattle.vault_model.specs.declared.place.Place.{Place}
-use Rattle.vault_model.specs.declared.claims.Claim.{Claim}
-use Rattle.vault_model.specs.declared.claims.Standing.TheVariants.{Held as Stands}
-use Rattle.vault_model.specs.declared.ids.ClaimId.{ClaimId}
-use Rattle.vault_model.specs.declared.ids.ClaimId.TheVariants.{Long, Short}
-use Rattle.vault_model.specs.Limits.{most_drafts, last_number}
-use Rattle.vault_model.specs.Tree.{IsTree}
-use Rattle.vault_model.specs.Claims.{same_id, is_short, claim_of, change_set, blocker, standing_of, standing_by, without_short}
-use Rattle.vault_model.specs.Shelf.{Draft}
-use Rattle.vault_model.specs.Drafts.{SavedDraft, comes_before, IsOrdered, saved_by}
-use Rattle.vault_model.specs.Vault.{Vault, IsClaim, IsGiven, IsDraft, AreDrafts}
+use Rattle.vault_state.specs.declared.place.Place.{Place}
+use Rattle.vault_state.specs.declared.claims.Claim.{Claim}
+use Rattle.vault_state.specs.declared.claims.Standing.TheVariants.{Held as Stands}
+use Rattle.vault_state.specs.declared.ids.ClaimId.{ClaimId}
+use Rattle.vault_state.specs.declared.ids.ClaimId.TheVariants.{Long, Short}
+use Rattle.vault_state.specs.Limits.{most_drafts, last_number}
+use Rattle.vault_state.specs.Tree.{IsTree}
+use Rattle.vault_state.specs.Claims.{same_id, is_short, claim_of, change_set, blocker, standing_of, standing_by, without_short}
+use Rattle.vault_state.specs.Shelf.{Draft}
+use Rattle.vault_state.specs.Drafts.{SavedDraft, comes_before, IsOrdered, saved_by}
+use Rattle.vault_state.specs.Vault.{Vault, IsClaim, IsGiven, IsDraft, AreDrafts}
 use Rattle.vault_model.proofs.Kept.{kept_new}
-use Rattle.vault_model.proofs.Stays.{ids}
+use Rattle.vault_state.proofs.Stays.{ids}
 use Rattle.long_locks.specs.LongClaims.{AreLongClaims}
 use Rattle.check_outs.specs.CheckOuts.{IsRising}
 use Rattle.check_outs.specs.declared.any.AnyCheckOut.{AnyCheckOut}

@@ -4,26 +4,26 @@ use Rattle.std.specs.List.{AllByRecursion}
 use Rattle.std.proofs.Common.{arith, ap, sym, subst, cond, ◌∙◌, append_assoc}
 use Rattle.std.proofs.lemmas.Bool.Decides.{nat_tests}
 use Rattle.std.proofs.lemmas.List.Elements.{All-head, All-tail, All-weaker, All-map}
-use Rattle.vault_model.specs.declared.place.Place.{Place}
-use Rattle.vault_model.specs.declared.claims.Claim.{Claim}
-use Rattle.vault_model.specs.declared.claims.Standing.TheVariants.{Held as Stands}
-use Rattle.vault_model.specs.declared.ids.ClaimId.{ClaimId}
-use Rattle.vault_model.specs.declared.ids.ClaimId.TheVariants.{Long}
-use Rattle.vault_model.specs.declared.session.Session.{Session}
-use Rattle.vault_model.specs.Limits.{most_weight}
-use Rattle.vault_model.specs.Claims.{same_id, claim_of, blocker, standing_of, standing_by}
-use Rattle.vault_model.specs.Shelf.{Draft, weight, drafts_weight}
-use Rattle.vault_model.specs.Drafts.{SavedDraft, comes_before, drafts_of, saved_weight, IsOrdered}
-use Rattle.vault_model.specs.Vault.{Vault, IsVault, IsClaim, IsDraft, AreDrafts, AreThere}
+use Rattle.vault_state.specs.declared.place.Place.{Place}
+use Rattle.vault_state.specs.declared.claims.Claim.{Claim}
+use Rattle.vault_state.specs.declared.claims.Standing.TheVariants.{Held as Stands}
+use Rattle.vault_state.specs.declared.ids.ClaimId.{ClaimId}
+use Rattle.vault_state.specs.declared.ids.ClaimId.TheVariants.{Long}
+use Rattle.vault_state.specs.declared.session.Session.{Session}
+use Rattle.vault_state.specs.Limits.{most_weight}
+use Rattle.vault_state.specs.Claims.{same_id, claim_of, blocker, standing_of, standing_by}
+use Rattle.vault_state.specs.Shelf.{Draft, weight, drafts_weight}
+use Rattle.vault_state.specs.Drafts.{SavedDraft, comes_before, drafts_of, saved_weight, IsOrdered}
+use Rattle.vault_state.specs.Vault.{Vault, IsVault, IsClaim, IsDraft, AreDrafts, AreThere}
 use Rattle.vault_model.specs.After.{IsDurable}
 use Rattle.vault_model.proofs.Kept.{All-kept}
-use Rattle.vault_model.proofs.Overlaps.{eq_from}
-use Rattle.vault_model.proofs.Stays.{own_id}
+use Rattle.vault_state.proofs.Overlaps.{eq_from}
+use Rattle.vault_state.proofs.Stays.{own_id}
 use Rattle.long_locks.specs.LongClaims.{AreLongClaims}
 use Rattle.check_outs.specs.CheckOuts.{IsRising}
 use Rattle.check_outs.specs.Typed.{saved}
 use Rattle.check_outs.specs.Parts.{Parts, drafts_under, parts_of, IsVaultOf, MayBe, MayHave, EachMayHave, AreFit, number_in, opened_all}
-use Rattle.vault_model.proofs.OneDrafts.{one_drafts, no_drafts_of}
+use Rattle.vault_state.proofs.OneDrafts.{one_drafts, no_drafts_of}
 use Rattle.check_outs.proofs.PutIn.{IsLong, AreLong, weight_opened}
 use Rattle.vault_checkout.proofs.PartsMade.{found_in, stands_in, all_long, match_of, drafts_made, drafts_given}
 

@@ -5,18 +5,18 @@ use Rattle.std.specs.Option.{option_map, option_map_or, is_none}
 use Rattle.std.proofs.Common.{arith, ap, sym, subst, cond, ◌∙◌}
 use Rattle.std.proofs.lemmas.Bool.Decides.{nat_tests}
 use Rattle.std.proofs.lemmas.List.Elements.{All-head}
-use Rattle.vault_model.specs.declared.place.Place.{Place}
-use Rattle.vault_model.specs.declared.claims.Item.{Item}
-use Rattle.vault_model.specs.declared.claims.Claim.{Claim}
-use Rattle.vault_model.specs.declared.claims.Standing.TheVariants as standings
-use Rattle.vault_model.specs.declared.ids.ClaimId.{ClaimId}
-use Rattle.vault_model.specs.declared.ids.ClaimId.TheVariants.{Long}
-use Rattle.vault_model.specs.Claims.{same_id, overlap, blocker, standing_behind, claim_of, before, without, is_held, standing_of, put_first}
-use Rattle.vault_model.specs.Shelf.{Draft}
-use Rattle.vault_model.specs.Drafts.{SavedDraft, saved_by}
-use Rattle.vault_model.specs.Vault.{IsDraft}
+use Rattle.vault_state.specs.declared.place.Place.{Place}
+use Rattle.vault_state.specs.declared.claims.Item.{Item}
+use Rattle.vault_state.specs.declared.claims.Claim.{Claim}
+use Rattle.vault_state.specs.declared.claims.Standing.TheVariants as standings
+use Rattle.vault_state.specs.declared.ids.ClaimId.{ClaimId}
+use Rattle.vault_state.specs.declared.ids.ClaimId.TheVariants.{Long}
+use Rattle.vault_state.specs.Claims.{same_id, overlap, blocker, standing_behind, claim_of, before, without, is_held, standing_of, put_first}
+use Rattle.vault_state.specs.Shelf.{Draft}
+use Rattle.vault_state.specs.Drafts.{SavedDraft, saved_by}
+use Rattle.vault_state.specs.Vault.{IsDraft}
 use Rattle.vault_model.specs.After.{drafts_held}
-use Rattle.vault_model.proofs.Stays.{ids, stood, take_while-cons, same_id_itself, same_id_turned, own_id, held_none, claim_of-kept, held_kept, kept_there}
+use Rattle.vault_state.proofs.Stays.{ids, stood, take_while-cons, same_id_itself, same_id_turned, own_id, held_none, claim_of-kept, held_kept, kept_there}
 use Rattle.check_outs.specs.Typed.{number_of, own_drafts, marked, saved}
 use Rattle.check_outs.specs.declared.any.AnyCheckOut.{AnyCheckOut}
 

@@ -1,16 +1,16 @@
 -- What a save comes to, from what was looked at.
 use Rattle.std.specs.Prelude.{◌≡◌, ℕ, true, false, List, Some, None, Ok, Err, refl}
-use Rattle.vault_model.specs.declared.claims.Claim.{Claim}
-use Rattle.vault_model.specs.declared.ids.ClaimId.TheVariants.{Long}
-use Rattle.vault_model.specs.declared.session.Session.{Session}
+use Rattle.vault_state.specs.declared.claims.Claim.{Claim}
+use Rattle.vault_state.specs.declared.ids.ClaimId.TheVariants.{Long}
+use Rattle.vault_state.specs.declared.session.Session.{Session}
 use Rattle.vault_model.specs.declared.effects.Effect.TheVariants as effects
 use Rattle.vault_model.specs.declared.replies.Refusal.{Refusal}
 use Rattle.vault_model.specs.declared.replies.Refusal.TheVariants.{NoPlace, WrongKind, NotCovered, Limit}
 use Rattle.vault_model.specs.declared.replies.Reply.TheVariants as replies
-use Rattle.vault_model.specs.Tree.{find_place, is_part}
-use Rattle.vault_model.specs.Claims.{change_set}
-use Rattle.vault_model.specs.Drafts.{new_draft}
-use Rattle.vault_model.specs.Vault.{Vault}
+use Rattle.vault_state.specs.Tree.{find_place, is_part}
+use Rattle.vault_state.specs.Claims.{change_set}
+use Rattle.vault_state.specs.Drafts.{new_draft}
+use Rattle.vault_state.specs.Vault.{Vault}
 use Rattle.vault_model.specs.Changes.{with_content}
 use Rattle.vault_model.specs.Step.{usable, may_save, chained, save}
 

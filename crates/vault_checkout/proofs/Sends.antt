@@ -3,7 +3,7 @@ use denote.RattleType.{RattleType}
 use denote.Param.Send.{IsSend, Frees, struct_send, recorded_send, view_send}
 use denote.Struct.Declared.{shape}
 use Rattle.std.specs.declared.alloc.Allocator.{Ghosts}
-use Rattle.vault_model.proofs.Sends.{fields, session_send}
+use Rattle.vault_state.proofs.Sends.{fields, session_send}
 use Rattle.design_tree.proofs.Sends.{tree_send}
 use Rattle.part_versions.proofs.Sends.{shelf_send}
 use Rattle.long_locks.proofs.Sends.{line_send}

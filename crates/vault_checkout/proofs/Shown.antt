@@ -1,11 +1,11 @@
 -- Drafts of a check-out stand at places that are there.
 use Rattle.std.specs.Prelude.{ℕ, ◌≤◌, ◌==◌, List, length, filter, All}
 use Rattle.std.proofs.lemmas.List.Elements.{All-map, All-filter, All-weaker}
-use Rattle.vault_model.specs.declared.place.Place.{Place}
-use Rattle.vault_model.specs.declared.claims.Claim.{Claim}
-use Rattle.vault_model.specs.Shelf.{Draft}
-use Rattle.vault_model.specs.Drafts.{SavedDraft, drafts_of}
-use Rattle.vault_model.specs.Vault.{IsDraft, AreDrafts}
+use Rattle.vault_state.specs.declared.place.Place.{Place}
+use Rattle.vault_state.specs.declared.claims.Claim.{Claim}
+use Rattle.vault_state.specs.Shelf.{Draft}
+use Rattle.vault_state.specs.Drafts.{SavedDraft, drafts_of}
+use Rattle.vault_state.specs.Vault.{IsDraft, AreDrafts}
 
 pub drafts_there : (tree : List Place) (line : List Claim) (drafts : List SavedDraft) (number : ℕ) → AreDrafts tree line drafts
     → All (λ (x : Draft). x.place ≤ length tree) (drafts_of drafts number)

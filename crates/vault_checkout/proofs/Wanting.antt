@@ -3,20 +3,20 @@ use Rattle.std.specs.Prelude.{◌≡◌, ℕ, ◌+◌, ◌==◌, ◌||◌, nat_l
 use Rattle.std.proofs.Common.{ap, sym, ◌∙◌}
 use Rattle.std.specs.Option.{ok_or}
 use Rattle.std.specs.Result.{IsErrAnd}
-use Rattle.vault_model.specs.declared.claims.Item.{Item}
-use Rattle.vault_model.specs.declared.claims.PathItem.{PathItem}
-use Rattle.vault_model.specs.declared.claims.Standing.{Standing}
+use Rattle.vault_state.specs.declared.claims.Item.{Item}
+use Rattle.vault_state.specs.declared.claims.PathItem.{PathItem}
+use Rattle.vault_state.specs.declared.claims.Standing.{Standing}
 use Rattle.vault_model.specs.declared.effects.Effect.TheVariants as effects
-use Rattle.vault_model.specs.declared.ids.ClaimId.TheVariants.{Long, Short}
+use Rattle.vault_state.specs.declared.ids.ClaimId.TheVariants.{Long, Short}
 use Rattle.vault_model.specs.declared.replies.Refusal.{Refusal}
 use Rattle.vault_model.specs.declared.replies.Refusal.TheVariants.{ItemCount, NoPlace, Limit}
-use Rattle.vault_model.specs.declared.session.Session.{Session}
+use Rattle.vault_state.specs.declared.session.Session.{Session}
 use Rattle.vault_model.specs.Said.{Reply}
 use Rattle.vault_model.specs.Changes.{with_check_out, with_hold}
-use Rattle.vault_model.specs.Claims.{standing_behind}
-use Rattle.vault_model.specs.Limits.{most_items, most_claims, last_number}
+use Rattle.vault_state.specs.Claims.{standing_behind}
+use Rattle.vault_state.specs.Limits.{most_items, most_claims, last_number}
 use Rattle.vault_model.specs.Step.{Outcome, chained, refuse_if, placed, asked, check_out, hold}
-use Rattle.vault_model.specs.Vault.{Vault}
+use Rattle.vault_state.specs.Vault.{Vault}
 use Rattle.check_outs.specs.declared.stop.Stop.{Stop}
 use Rattle.check_outs.specs.declared.stop.Stop.TheVariants.{OutOfMemory}
 use Rattle.vault_checkout.specs.declared.done.Done.{Done}

@@ -1,5 +1,5 @@
 -- Why parts make no book. This project's own.
-use Rattle.vault_model.specs.Vault.{Vault}
+use Rattle.vault_state.specs.Vault.{Vault}
 use Rattle.check_outs.specs.Parts.{Parts, IsVaultOf}
 use Rattle.vault_checkout.specs.declared.from_parts.FromPartsError.{FromPartsError}
 use Rattle.vault_checkout.specs.declared.from_parts.FromPartsError.TheVariants.{NotWellFormed, NoMemory}

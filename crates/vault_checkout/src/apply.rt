@@ -1,11 +1,11 @@
 //! Effects, made on a book as the journal has them.
 ghost use Rattle.std.specs.Prelude.{◌≡◌, ◌+◌, ◌==◌, ◌&&◌, not, nat_le, length, Some, is_some};
 ghost use Rattle.vault_model.specs.After.{may_make, may_ask, are_there, after_made, after_nested, after_asked, after_extended, after_saved, after_checked_in, after_abandoned, after_given, after_noted, after};
-ghost use Rattle.vault_model.specs.Tree.{is_part};
-ghost use Rattle.vault_model.specs.Claims.{change_set, claim_of};
-ghost use Rattle.vault_model.specs.declared.ids.ClaimId.TheVariants.{Long};
-ghost use Rattle.vault_model.specs.Limits.{most_items};
-ghost use Rattle.vault_model.specs.Vault.{new_vault};
+ghost use Rattle.vault_state.specs.Tree.{is_part};
+ghost use Rattle.vault_state.specs.Claims.{change_set, claim_of};
+ghost use Rattle.vault_state.specs.declared.ids.ClaimId.TheVariants.{Long};
+ghost use Rattle.vault_state.specs.Limits.{most_items};
+ghost use Rattle.vault_state.specs.Vault.{new_vault};
 ghost use Rattle.vault_checkout.specs.Applied.{Applies};
 
 use crate::book::Book;

@@ -1,14 +1,14 @@
 //! The book: a vault, and what each command does to it.
 ghost use Rattle.std.specs.Prelude.{◌≡◌, ℕ, ◌+◌, ◌-◌, ◌<◌, ◌≤◌, ◌==◌, ◌^◌, ◌||◌, List, length, Option, Ok, IsOk, IfOk, OnOk, OnErr, Some, IfSome, All, is_some, find, filter, not, true};
 ghost use Rattle.std.specs.Option.{option_copied};
-ghost use Rattle.vault_model.specs.Vault.{Vault, IsVault, CountsBelow, session_of, one_more, counted, counted_in, new_vault, durable};
-ghost use Rattle.vault_model.specs.Claims.{claim_of, standing_of, is_held};
-ghost use Rattle.vault_model.specs.Drafts.{drafts_of};
+ghost use Rattle.vault_state.specs.Vault.{Vault, IsVault, CountsBelow, session_of, one_more, counted, counted_in, new_vault, durable};
+ghost use Rattle.vault_state.specs.Claims.{claim_of, standing_of, is_held};
+ghost use Rattle.vault_state.specs.Drafts.{drafts_of};
 ghost use Rattle.vault_model.specs.Step.{usable, join, check_out, extend, abandon, asked, extension, in_session, decide, step};
-ghost use Rattle.vault_model.specs.declared.session.Session.{Session};
-ghost use Rattle.vault_model.specs.declared.claims.Standing.TheVariants as standings;
+ghost use Rattle.vault_state.specs.declared.session.Session.{Session};
+ghost use Rattle.vault_state.specs.declared.claims.Standing.TheVariants as standings;
 ghost use Rattle.long_locks.specs.Lines.{IsGrownFrom};
-ghost use Rattle.vault_model.specs.declared.ids.ClaimId.TheVariants.{Long};
+ghost use Rattle.vault_state.specs.declared.ids.ClaimId.TheVariants.{Long};
 ghost use Rattle.check_outs.specs.Typed.{number_of, is_granted, own_drafts, is_holding};
 ghost use Rattle.vault_checkout.specs.Done.{Follows};
 
@@ -50,7 +50,7 @@ pub struct Book<A: Allocator = Global> {
 }
 
 impl<A: Allocator> Model for Book<A> {
-    ghost use Rattle.vault_model.specs.Vault.{Vault};
+    ghost use Rattle.vault_state.specs.Vault.{Vault};
 
     ghost Value = { Vault };
 

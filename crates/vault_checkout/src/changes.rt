@@ -1,15 +1,15 @@
 //! The changes of claims and drafts that commands and effects share.
 ghost use Rattle.std.specs.Prelude.{◌≡◌, ℕ, ◌+◌, ◌<◌, ◌≤◌, true, false, List, length, ◌++◌, None, Some, IsSome, IfSome, is_some, All, IfOk, IfErr, OnOk, OnErr};
-ghost use Rattle.vault_model.specs.declared.claims.Claim.{Claim};
-ghost use Rattle.vault_model.specs.declared.claims.Item.{Item};
-ghost use Rattle.vault_model.specs.declared.claims.Standing.TheVariants as standings;
-ghost use Rattle.vault_model.specs.declared.ids.ClaimId.TheVariants.{Long, Short};
-ghost use Rattle.vault_model.specs.Tree.{child, is_part, may_have, is_full};
-ghost use Rattle.vault_model.specs.Claims.{claim_of, put_first, overlap, in_way_of, change_set, standing_of, standing_behind};
-ghost use Rattle.vault_model.specs.Limits.{most_items, most_claims, last_number};
-ghost use Rattle.vault_model.specs.Shelf.{is_shelvable};
-ghost use Rattle.vault_model.specs.Drafts.{drafts_of, new_draft};
-ghost use Rattle.vault_model.specs.Vault.{AreThere, IsDraft, IsVault};
+ghost use Rattle.vault_state.specs.declared.claims.Claim.{Claim};
+ghost use Rattle.vault_state.specs.declared.claims.Item.{Item};
+ghost use Rattle.vault_state.specs.declared.claims.Standing.TheVariants as standings;
+ghost use Rattle.vault_state.specs.declared.ids.ClaimId.TheVariants.{Long, Short};
+ghost use Rattle.vault_state.specs.Tree.{child, is_part, may_have, is_full};
+ghost use Rattle.vault_state.specs.Claims.{claim_of, put_first, overlap, in_way_of, change_set, standing_of, standing_behind};
+ghost use Rattle.vault_state.specs.Limits.{most_items, most_claims, last_number};
+ghost use Rattle.vault_state.specs.Shelf.{is_shelvable};
+ghost use Rattle.vault_state.specs.Drafts.{drafts_of, new_draft};
+ghost use Rattle.vault_state.specs.Vault.{AreThere, IsDraft, IsVault};
 ghost use Rattle.vault_model.specs.After.{drafts_held};
 ghost use Rattle.vault_model.specs.Changes.{with_place, with_check_out, with_items, with_content, with_versions, without_check_out, with_owner, with_note, without_hold};
 ghost use Rattle.vault_checkout.specs.Applied.{held_at};

@@ -1,6 +1,6 @@
 //! Drafts saved and checked in, and versions read.
 ghost use Rattle.std.specs.Prelude.{ℕ};
-ghost use Rattle.vault_model.specs.Vault.{CountsBelow};
+ghost use Rattle.vault_state.specs.Vault.{CountsBelow};
 ghost use Rattle.vault_model.specs.Step.{save, check_in, fetch, count};
 ghost use Rattle.vault_checkout.specs.Done.{Follows};
 

@@ -3,7 +3,7 @@ ghost use Rattle.std.specs.Prelude.{◌≡◌, length, All, IfOk, IfErr};
 ghost use Rattle.check_outs.specs.CheckOuts.{IsRising};
 ghost use Rattle.check_outs.specs.Parts.{Parts, IsVaultOf, opened_all};
 ghost use Rattle.vault_checkout.specs.FromParts.{IsRefusalOf};
-ghost use Rattle.vault_model.specs.Vault.{Vault};
+ghost use Rattle.vault_state.specs.Vault.{Vault};
 
 use crate::book::Book;
 use crate::granting::grant_held;

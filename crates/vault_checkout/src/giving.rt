@@ -1,6 +1,6 @@
 //! Check-outs given to another designer, and their notes.
 ghost use Rattle.std.specs.Prelude.{◌≡◌, ℕ};
-ghost use Rattle.vault_model.specs.Vault.{CountsBelow};
+ghost use Rattle.vault_state.specs.Vault.{CountsBelow};
 ghost use Rattle.vault_model.specs.Step.{owned, give, note, read_note};
 ghost use Rattle.vault_checkout.specs.Done.{Follows};
 

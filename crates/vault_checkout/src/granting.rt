@@ -1,7 +1,7 @@
 //! Check-outs are granted and recalled (wait again) as their claims stand.
 ghost use Rattle.std.specs.Prelude.{◌≡◌, List, map};
-ghost use Rattle.vault_model.specs.declared.place.Place.{Place};
-ghost use Rattle.vault_model.specs.Tree.{IsTree};
+ghost use Rattle.vault_state.specs.declared.place.Place.{Place};
+ghost use Rattle.vault_state.specs.Tree.{IsTree};
 ghost use Rattle.long_locks.specs.Lines.{IsGrownFrom};
 ghost use Rattle.check_outs.specs.Typed.{is_holding, granted, recalled};
 

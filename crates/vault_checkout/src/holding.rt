@@ -1,6 +1,6 @@
 //! Short locks: holds of a session, released one by one or as it leaves.
 ghost use Rattle.std.specs.Prelude.{◌≡◌, ℕ, Ok, is_some, true};
-ghost use Rattle.vault_model.specs.Vault.{CountsBelow, session_of};
+ghost use Rattle.vault_state.specs.Vault.{CountsBelow, session_of};
 ghost use Rattle.vault_model.specs.Step.{hold, release, leave};
 ghost use Rattle.vault_checkout.specs.Done.{Follows};
 

@@ -5,7 +5,7 @@
 //! leaves the durable vault. Parts make a book exactly if a durable vault has them, and at most one does (`from_parts`). A copy
 //! equals its source. Out of memory comes after all refusals, and changes nothing. Each check-out's type agrees with the queue,
 //! and the vault is well formed (`check_out_of`).
-//! Stands on: vault_model, design_tree, part_versions, check_outs, lock_table, long_locks. Must not know: devices, bytes of records, the
+//! Stands on: vault_state, vault_model, design_tree, part_versions, check_outs, lock_table, long_locks. Must not know: devices, bytes of records, the
 //! history, tickets.
 //!
 //! Invariants, of `Book`:

@@ -1,7 +1,7 @@
 //! Places made: by `make` of the default kind under the parent, by `nest` an assembly.
 ghost use Rattle.std.specs.Prelude.{◌≡◌, ℕ, ◌≤◌, false, None, length, OnOk};
-ghost use Rattle.vault_model.specs.Tree.{child, is_full};
-ghost use Rattle.vault_model.specs.Vault.{CountsBelow};
+ghost use Rattle.vault_state.specs.Tree.{child, is_full};
+ghost use Rattle.vault_state.specs.Vault.{CountsBelow};
 ghost use Rattle.vault_model.specs.Step.{permitted, admitted, make, nest};
 ghost use Rattle.vault_checkout.specs.Done.{Follows};
 

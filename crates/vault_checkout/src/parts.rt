@@ -1,6 +1,6 @@
 //! Whether parts are those of a durable vault.
 ghost use Rattle.std.specs.Prelude.{[], ◌↔◌, All, IsTrue};
-ghost use Rattle.vault_model.specs.Vault.{AreThere};
+ghost use Rattle.vault_state.specs.Vault.{AreThere};
 ghost use Rattle.check_outs.specs.Parts.{AreAllThere, OverlapsNone, MayBe, MayHave, EachMayHave, AreFit};
 
 use crate::changes::overlaps_locks;

@@ -1,7 +1,7 @@
 //! What a new claim asks for.
 ghost use Rattle.std.specs.Prelude.{◌≡◌, ◌+◌, ◌<◌, ◌≤◌, ◌==◌, ◌||◌, nat_lt, not, length, IfOk, OnOk};
-ghost use Rattle.vault_model.specs.Limits.{most_items, most_claims, last_number};
-ghost use Rattle.vault_model.specs.Vault.{AreThere};
+ghost use Rattle.vault_state.specs.Limits.{most_items, most_claims, last_number};
+ghost use Rattle.vault_state.specs.Vault.{AreThere};
 ghost use Rattle.vault_checkout.specs.Wanted.{wanted_items};
 
 use check_outs::places_of;

@@ -8,14 +8,14 @@ use Rattle.std.proofs.lemmas.List.{take_more, take_all}
 use Rattle.std.proofs.lemmas.List.Concat.{flat_map-cons}
 use Rattle.std.proofs.lemmas.Option.{get_or_from_slice_get, slice_get_within, slice_get-get_or}
 use Rattle.std.proofs.lemmas.List.Elements.{All-map, All-filter, All-weaker, filter-append}
-use Rattle.vault_model.specs.Limits.{longest_content}
-use Rattle.vault_model.specs.Shelf.{Draft}
-use Rattle.vault_model.specs.declared.place.Place.{Place}
-use Rattle.vault_model.specs.declared.claims.Claim.{Claim}
-use Rattle.vault_model.specs.Tree.{no_place}
-use Rattle.vault_model.specs.Claims.{is_short, without_short}
-use Rattle.vault_model.specs.Drafts.{SavedDraft, drafts_of}
-use Rattle.vault_model.specs.Vault.{Vault, IsDraft, AreDrafts}
+use Rattle.vault_state.specs.Limits.{longest_content}
+use Rattle.vault_state.specs.Shelf.{Draft}
+use Rattle.vault_state.specs.declared.place.Place.{Place}
+use Rattle.vault_state.specs.declared.claims.Claim.{Claim}
+use Rattle.vault_state.specs.Tree.{no_place}
+use Rattle.vault_state.specs.Claims.{is_short, without_short}
+use Rattle.vault_state.specs.Drafts.{SavedDraft, drafts_of}
+use Rattle.vault_state.specs.Vault.{Vault, IsDraft, AreDrafts}
 use Rattle.vault_format.specs.Adds.{Adds}
 use Rattle.vault_format.specs.Snapshot.{current_version, claim_bytes, place_bytes, places_bytes}
 

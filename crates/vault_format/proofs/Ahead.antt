@@ -5,10 +5,10 @@ use Rattle.std.specs.Prelude.{IfSome}
 use Rattle.std.specs.Option.{is_some}
 use Rattle.std.proofs.lemmas.Bool.Decides.{eqb_tells}
 use Rattle.std.proofs.lemmas.List.Elements.{All-nil}
-use Rattle.vault_model.specs.declared.place.Place.{Place}
-use Rattle.vault_model.specs.Name.{IsName}
-use Rattle.vault_model.specs.Tree.{is_part, IsTree}
-use Rattle.vault_model.specs.Shelf.{versions_of}
+use Rattle.vault_state.specs.declared.place.Place.{Place}
+use Rattle.vault_state.specs.Name.{IsName}
+use Rattle.vault_state.specs.Tree.{is_part, IsTree}
+use Rattle.vault_state.specs.Shelf.{versions_of}
 use Rattle.vault_journal.specs.Laws.{AreBytes}
 use Rattle.vault_journal.specs.Reading.{u8_at, u16_at, u32_at, name_at, content_at}
 use Rattle.vault_journal.specs.Spelling.{in_two, in_four, name_bytes, content_bytes}

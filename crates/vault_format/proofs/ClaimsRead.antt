@@ -1,11 +1,11 @@
 -- The claims of a snapshot, read one after another.
 use Rattle.std.proofs.Common.{◌≡◌, ℕ, ◌+◌, ◌<◌, ◌≤◌, ◌^◌, List, [], ◌∷◌, ◌++◌, length, map, Some, None, refl, sym, ◌∙◌, ap, subst, arith, append_assoc}
 use Rattle.std.specs.List.{flat_map}
-use Rattle.vault_model.specs.declared.claims.Claim.{Claim}
-use Rattle.vault_model.specs.declared.claims.Item.{Item}
-use Rattle.vault_model.specs.Limits.{most_claims}
-use Rattle.vault_model.specs.Name.{IsName}
-use Rattle.vault_model.specs.Shelf.{Draft}
+use Rattle.vault_state.specs.declared.claims.Claim.{Claim}
+use Rattle.vault_state.specs.declared.claims.Item.{Item}
+use Rattle.vault_state.specs.Limits.{most_claims}
+use Rattle.vault_state.specs.Name.{IsName}
+use Rattle.vault_state.specs.Shelf.{Draft}
 use Rattle.vault_journal.specs.Laws.{AreBytes}
 use Rattle.vault_journal.specs.Reading.{u16_at, u32_at, name_at, items_at}
 use Rattle.vault_journal.specs.Spelling.{in_two, in_four, name_bytes, items_bytes, AreItems}

@@ -1,8 +1,8 @@
 -- The drafts of a check-out, read one after another.
 use Rattle.std.proofs.Common.{◌≡◌, ℕ, ◌+◌, ◌<◌, ◌≤◌, ◌^◌, List, [], ◌∷◌, ◌++◌, length, Option, Some, None, sym, ◌∙◌, ap, subst, arith, append_assoc}
 use Rattle.std.specs.List.{flat_map}
-use Rattle.vault_model.specs.Limits.{most_drafts}
-use Rattle.vault_model.specs.Shelf.{Draft, draft_at}
+use Rattle.vault_state.specs.Limits.{most_drafts}
+use Rattle.vault_state.specs.Shelf.{Draft, draft_at}
 use Rattle.vault_journal.specs.Laws.{AreBytes, IsInverse}
 use Rattle.vault_journal.specs.Reading.{u8_at, u32_at, content_at}
 use Rattle.vault_journal.specs.Spelling.{in_four, content_bytes, longest_content}

@@ -4,7 +4,7 @@ use Rattle.std.specs.List.{AllByRecursion}
 use Rattle.std.specs.Option.{option_and_then}
 use Rattle.std.proofs.lemmas.List.{flat_map_more}
 use Rattle.vault_model.specs.Said.{Effect}
-use Rattle.vault_model.specs.Vault.{Vault, IsVault}
+use Rattle.vault_state.specs.Vault.{Vault, IsVault}
 use Rattle.vault_model.specs.After.{after, IsDurable}
 use Rattle.vault_model.proofs.Durable.{durable_stays}
 use Rattle.vault_journal.specs.Spelling.{in_four, record_of, records_of, HasRecord}

@@ -2,12 +2,12 @@
 use Rattle.std.proofs.Common.{◌≡◌, ℕ, suc, ◌==◌, Bool, true, false, cond, List, [], ◌∷◌, ◌++◌, Some, None, refl, sym, ◌∙◌, ap}
 use Rattle.std.proofs.Common.{arith}
 use Rattle.std.proofs.lemmas.Bool.Decides.{nat_tests}
-use Rattle.vault_model.specs.declared.place.Place.{Place}
-use Rattle.vault_model.specs.declared.place.Kind.{Kind}
-use Rattle.vault_model.specs.declared.place.Kind.TheVariants.{Library, Project, Assembly, Part}
-use Rattle.vault_model.specs.Tree.{depth, kind_of, is_part_kind, may_stand}
-use Rattle.vault_model.proofs.Depths.{assembly_deep, part_deep, one_kind}
-use Rattle.vault_model.proofs.Overlaps.{eq_from}
+use Rattle.vault_state.specs.declared.place.Place.{Place}
+use Rattle.vault_state.specs.declared.place.Kind.{Kind}
+use Rattle.vault_state.specs.declared.place.Kind.TheVariants.{Library, Project, Assembly, Part}
+use Rattle.vault_state.specs.Tree.{depth, kind_of, is_part_kind, may_stand}
+use Rattle.vault_state.proofs.Depths.{assembly_deep, part_deep, one_kind}
+use Rattle.vault_state.proofs.Overlaps.{eq_from}
 use Rattle.vault_journal.proofs.Takes.{some_is}
 use Rattle.vault_format.specs.declared.version.FileVersion.{FileVersion}
 use Rattle.vault_format.specs.declared.version.FileVersion.TheVariants.{One, Two}

@@ -5,7 +5,7 @@ use Rattle.std.proofs.lemmas.List.{length_push, append-nil}
 use Rattle.std.proofs.lemmas.List.Concat.{flat_map-append, flat_map-cons}
 use Rattle.std.proofs.lemmas.List.Elements.{All-nil, All-head, All-push}
 use Rattle.vault_format.proofs.SpelledLists.{Tells, lists_tell}
-use Rattle.vault_model.proofs.Lists.{All-back, All-front}
+use Rattle.vault_state.proofs.Lists.{All-back, All-front}
 
 -- what holds for all items holds for one between others
 pub all_next : {X : Type 0} (P : X → Type 0) (xs ys : List X) (x : X) → All P (xs ++ x ∷ ys) → P x

@@ -3,21 +3,21 @@ use Rattle.std.proofs.Common.{◌≡◌, ℕ, not, Bool, true, false, cond, List
 use Rattle.std.specs.List.{AllByRecursion}
 use Rattle.std.specs.Option.{option_and_then}
 use Rattle.std.proofs.lemmas.List.Elements.{All-cons, All-filter, All-push, All-map, All-weaker}
-use Rattle.vault_model.specs.declared.place.Place.{Place}
-use Rattle.vault_model.specs.declared.place.Kind.TheVariants.{Assembly}
-use Rattle.vault_model.specs.Tree.{new_place, kind_under}
-use Rattle.vault_model.specs.declared.claims.Item.{Item}
-use Rattle.vault_model.specs.declared.claims.Claim.{Claim}
-use Rattle.vault_model.specs.declared.ids.ClaimId.{ClaimId}
-use Rattle.vault_model.specs.declared.ids.ClaimId.TheVariants.{Long}
+use Rattle.vault_state.specs.declared.place.Place.{Place}
+use Rattle.vault_state.specs.declared.place.Kind.TheVariants.{Assembly}
+use Rattle.vault_state.specs.Tree.{new_place, kind_under}
+use Rattle.vault_state.specs.declared.claims.Item.{Item}
+use Rattle.vault_state.specs.declared.claims.Claim.{Claim}
+use Rattle.vault_state.specs.declared.ids.ClaimId.{ClaimId}
+use Rattle.vault_state.specs.declared.ids.ClaimId.TheVariants.{Long}
 use Rattle.vault_model.specs.declared.effects.Effect.TheVariants as effects
-use Rattle.vault_model.specs.Name.{IsName}
+use Rattle.vault_state.specs.Name.{IsName}
 use Rattle.vault_model.specs.Said.{Effect}
-use Rattle.vault_model.specs.Claims.{new_check_out, same_id, claim_of, without, put_first, changed, given_to, noted_as}
-use Rattle.vault_model.specs.Vault.{Vault}
+use Rattle.vault_state.specs.Claims.{new_check_out, same_id, claim_of, without, put_first, changed, given_to, noted_as}
+use Rattle.vault_state.specs.Vault.{Vault}
 use Rattle.vault_model.specs.After.{only_if, after, after_made, after_nested, after_asked, after_extended, after_saved, after_checked_in, after_abandoned, after_given, after_noted}
 use Rattle.vault_model.proofs.Durable.{durable_stays}
-use Rattle.vault_model.proofs.Stays.{claim_there}
+use Rattle.vault_state.proofs.Stays.{claim_there}
 use Rattle.vault_journal.specs.Spelling.{HasRecord}
 use Rattle.vault_format.specs.Snapshot.{HasSnapshot, designer_of}
 use Rattle.vault_format.specs.Files.{applied, after_frames, IsFrame}

@@ -4,7 +4,7 @@ use Rattle.std.specs.List.{AllByRecursion}
 use Rattle.std.proofs.lemmas.List.{take_at, drop_at, drop_more}
 use Rattle.std.proofs.lemmas.List.Concat.{flat_map-cons}
 use Rattle.vault_model.specs.Said.{Effect}
-use Rattle.vault_model.specs.Vault.{Vault}
+use Rattle.vault_state.specs.Vault.{Vault}
 use Rattle.vault_journal.specs.Spelling.{in_four, in_eight, records_of}
 use Rattle.vault_journal.specs.Laws.{IsInverse}
 use Rattle.vault_journal.specs.Reading.{u32_at, u64_at}

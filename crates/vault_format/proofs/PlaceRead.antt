@@ -1,16 +1,16 @@
 -- One place, read with its versions.
-use Rattle.vault_model.specs.Tree.{new_place}
+use Rattle.vault_state.specs.Tree.{new_place}
 use Rattle.std.proofs.Common.{◌≡◌, ◌≢◌, ℕ, suc, ◌+◌, ◌<◌, ◌≤◌, ◌^◌, Bool, true, false, List, [], ◌∷◌, ◌++◌, length, Some, None, refl, sym, ◌∙◌, ap, subst, arith, append_assoc, inl, inr}
 use Rattle.std.proofs.lemmas.Bool.{cases_lt}
 use Rattle.std.proofs.lemmas.Bool.Decides.{eqb_tells}
 use Rattle.std.proofs.lemmas.List.{append-nil, length_push}
-use Rattle.vault_model.specs.declared.place.Place.{Place}
-use Rattle.vault_model.specs.Name.{IsName}
-use Rattle.vault_model.specs.declared.place.Kind.{Kind}
-use Rattle.vault_model.specs.Tree.{depth, is_part, is_part_kind, may_stand, IsTree}
-use Rattle.vault_model.specs.Shelf.{versions_of}
-use Rattle.vault_model.specs.Vault.{AreVersions}
-use Rattle.vault_model.proofs.Growth.{is_part-push}
+use Rattle.vault_state.specs.declared.place.Place.{Place}
+use Rattle.vault_state.specs.Name.{IsName}
+use Rattle.vault_state.specs.declared.place.Kind.{Kind}
+use Rattle.vault_state.specs.Tree.{depth, is_part, is_part_kind, may_stand, IsTree}
+use Rattle.vault_state.specs.Shelf.{versions_of}
+use Rattle.vault_state.specs.Vault.{AreVersions}
+use Rattle.vault_state.proofs.Growth.{is_part-push}
 use Rattle.vault_journal.specs.Laws.{AreBytes}
 use Rattle.vault_journal.specs.Reading.{u32_at, name_at}
 use Rattle.vault_journal.specs.Spelling.{in_four, name_bytes}

@@ -4,13 +4,13 @@ use Rattle.std.specs.List.{flat_map}
 use Rattle.std.proofs.lemmas.Bool.{cases_lt, cases_Bool}
 use Rattle.std.proofs.lemmas.List.{append-nil}
 use Rattle.std.proofs.lemmas.List.Elements.{All-nil, All-push}
-use Rattle.vault_model.specs.declared.place.Place.{Place}
-use Rattle.vault_model.specs.Name.{IsName}
-use Rattle.vault_model.specs.Tree.{is_part, IsTree}
-use Rattle.vault_model.specs.Shelf.{versions_of}
-use Rattle.vault_model.specs.Vault.{Vault}
-use Rattle.vault_model.proofs.Kept.{tree_new}
-use Rattle.vault_model.proofs.Shelves.{none_shelved}
+use Rattle.vault_state.specs.declared.place.Place.{Place}
+use Rattle.vault_state.specs.Name.{IsName}
+use Rattle.vault_state.specs.Tree.{is_part, IsTree}
+use Rattle.vault_state.specs.Shelf.{versions_of}
+use Rattle.vault_state.specs.Vault.{Vault}
+use Rattle.vault_state.proofs.NewTree.{tree_new}
+use Rattle.vault_state.proofs.Shelves.{none_shelved}
 use Rattle.vault_journal.specs.Laws.{AreBytes}
 use Rattle.vault_journal.specs.Reading.{u32_at}
 use Rattle.vault_journal.specs.Spelling.{in_two, in_four}
@@ -24,8 +24,8 @@ use Rattle.vault_format.proofs.Spelled.{places_have, contents_of, snapshot_split
 use Rattle.vault_format.proofs.TreeFronts.{tree_front, last_parent, kinds_front, kinds_push}
 use Rattle.vault_format.proofs.ListsRead.{cut_at}
 use Rattle.vault_format.proofs.ShelfFronts.{no_versions}
-use Rattle.vault_model.proofs.Growth.{is_part-push}
-use Rattle.vault_model.proofs.Lists.{All-front}
+use Rattle.vault_state.proofs.Growth.{is_part-push}
+use Rattle.vault_state.proofs.Lists.{All-front}
 use Rattle.vault_format.proofs.PlaceRead.{no_versions_past}
 
 -- ---- spellings of places

@@ -1,7 +1,7 @@
 -- Right heads: of one generation, without a fault, and open.
 use Rattle.std.proofs.Common.{◌≡◌, inl, inr, ℕ, ◌<◌, ◌^◌, List, [], ◌++◌, length, get_or, take, drop, ◌∷◌, ◌+◌, refl, sym, ◌∙◌, ap, subst, arith, length-append, take-append-drop}
 use Rattle.std.proofs.lemmas.List.{take_at}
-use Rattle.vault_model.specs.Vault.{Vault}
+use Rattle.vault_state.specs.Vault.{Vault}
 use Rattle.vault_journal.specs.Spelling.{in_four, in_eight}
 use Rattle.vault_journal.specs.Reading.{u64_at}
 use Rattle.vault_journal.proofs.OneSpelling.{fields_are_spelled}

@@ -4,10 +4,10 @@ use Rattle.std.specs.Prelude.{nat_le}
 use Rattle.std.proofs.lemmas.Bool.Decides.{eqb_tells}
 use Rattle.std.proofs.lemmas.List.{append-nil, get_or_default, length-append}
 use Rattle.std.proofs.lemmas.List.Sums.{sum_by-cons, sum_by-append, list_all-from_AllPass}
-use Rattle.vault_model.specs.Limits.{most_versions}
-use Rattle.vault_model.specs.Shelf.{versions_of, shelved, content_weight, versions_weight, weight, is_shelvable, IsShelf, draft_at}
-use Rattle.vault_model.proofs.Overlaps.{and_intro}
-use Rattle.vault_model.proofs.Shelves.{versions_of-shelved, versions_of-shelved_other, le_true}
+use Rattle.vault_state.specs.Limits.{most_versions}
+use Rattle.vault_state.specs.Shelf.{versions_of, shelved, content_weight, versions_weight, weight, is_shelvable, IsShelf, draft_at}
+use Rattle.vault_state.proofs.Overlaps.{and_intro}
+use Rattle.vault_state.proofs.Shelves.{versions_of-shelved, versions_of-shelved_other, le_true}
 use Rattle.vault_format.specs.Places.{IsFrontOf, shelf_with}
 use Rattle.vault_format.proofs.SpelledLists.{IsContent}
 use Rattle.vault_format.proofs.Spelled.{contents_of}

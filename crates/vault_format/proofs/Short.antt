@@ -6,15 +6,15 @@ use Rattle.std.proofs.lemmas.List.{drop_more, drop_all, get_or_past}
 use Rattle.std.proofs.lemmas.List.Sums.{sum_by-cons}
 use Rattle.std.proofs.lemmas.List.Concat.{flat_map-cons}
 use Rattle.std.proofs.lemmas.List.Elements.{All-head, All-tail, All-map, All-filter, All-weaker}
-use Rattle.vault_model.specs.declared.place.Place.{Place}
-use Rattle.vault_model.specs.declared.claims.Claim.{Claim}
-use Rattle.vault_model.specs.Name.{IsName}
-use Rattle.vault_model.specs.declared.ids.ClaimId.{ClaimId}
-use Rattle.vault_model.specs.declared.ids.ClaimId.TheVariants.{Long, Short}
-use Rattle.vault_model.specs.Tree.{is_part}
-use Rattle.vault_model.specs.Shelf.{Draft, versions_of, versions_weight, weight, content_weight}
-use Rattle.vault_model.specs.Drafts.{SavedDraft, drafts_of}
-use Rattle.vault_model.specs.Vault.{Vault, IsVault, IsNoteOf, IsClaim, IsDraft}
+use Rattle.vault_state.specs.declared.place.Place.{Place}
+use Rattle.vault_state.specs.declared.claims.Claim.{Claim}
+use Rattle.vault_state.specs.Name.{IsName}
+use Rattle.vault_state.specs.declared.ids.ClaimId.{ClaimId}
+use Rattle.vault_state.specs.declared.ids.ClaimId.TheVariants.{Long, Short}
+use Rattle.vault_state.specs.Tree.{is_part}
+use Rattle.vault_state.specs.Shelf.{Draft, versions_of, versions_weight, weight, content_weight}
+use Rattle.vault_state.specs.Drafts.{SavedDraft, drafts_of}
+use Rattle.vault_state.specs.Vault.{Vault, IsVault, IsNoteOf, IsClaim, IsDraft}
 use Rattle.vault_journal.proofs.Sizes.{flat_map-item_bytes}
 use Rattle.vault_journal.proofs.Sizes.{name_is_short}
 use Rattle.vault_journal.specs.Spelling.{in_two, in_four, name_bytes, items_bytes, content_bytes}

@@ -6,26 +6,26 @@ use Rattle.std.proofs.lemmas.Bool.{cases_Bool, cases_lt}
 use Rattle.std.proofs.lemmas.Option.{slice_get-get_or}
 use Rattle.std.proofs.lemmas.List.{get_or_past}
 use Rattle.std.proofs.lemmas.List.Elements.{All-nil, All-cons, All-head, All-tail, All-map, All-filter, All-weaker, All-get_or, All-from_get_or}
-use Rattle.vault_model.specs.declared.claims.Claim.{Claim}
-use Rattle.vault_model.specs.declared.claims.Item.{Item}
-use Rattle.vault_model.specs.declared.claims.Owner.{Owner}
-use Rattle.vault_model.specs.declared.claims.Owner.TheVariants as owners
-use Rattle.vault_model.specs.declared.claims.Standing.TheVariants.{Held}
-use Rattle.vault_model.specs.declared.ids.ClaimId.{ClaimId}
-use Rattle.vault_model.specs.declared.ids.ClaimId.TheVariants.{Long, Short}
-use Rattle.vault_model.specs.declared.place.Place.{Place}
-use Rattle.vault_model.specs.Name.{IsName}
-use Rattle.vault_model.specs.Note.{IsNote}
-use Rattle.vault_model.specs.Limits.{most_versions}
-use Rattle.vault_model.specs.Tree.{is_part, IsTree, no_place}
-use Rattle.vault_model.specs.Claims.{standing_of}
-use Rattle.vault_model.specs.Shelf.{versions_of, IsShelf}
-use Rattle.vault_model.specs.Drafts.{SavedDraft, drafts_of}
-use Rattle.vault_model.specs.Vault.{Vault, IsClaim, IsGiven, Owns, IsNoteOf, AreThere, IsDraft}
+use Rattle.vault_state.specs.declared.claims.Claim.{Claim}
+use Rattle.vault_state.specs.declared.claims.Item.{Item}
+use Rattle.vault_state.specs.declared.claims.Owner.{Owner}
+use Rattle.vault_state.specs.declared.claims.Owner.TheVariants as owners
+use Rattle.vault_state.specs.declared.claims.Standing.TheVariants.{Held}
+use Rattle.vault_state.specs.declared.ids.ClaimId.{ClaimId}
+use Rattle.vault_state.specs.declared.ids.ClaimId.TheVariants.{Long, Short}
+use Rattle.vault_state.specs.declared.place.Place.{Place}
+use Rattle.vault_state.specs.Name.{IsName}
+use Rattle.vault_state.specs.Note.{IsNote}
+use Rattle.vault_state.specs.Limits.{most_versions}
+use Rattle.vault_state.specs.Tree.{is_part, IsTree, no_place}
+use Rattle.vault_state.specs.Claims.{standing_of}
+use Rattle.vault_state.specs.Shelf.{versions_of, IsShelf}
+use Rattle.vault_state.specs.Drafts.{SavedDraft, drafts_of}
+use Rattle.vault_state.specs.Vault.{Vault, IsClaim, IsGiven, Owns, IsNoteOf, AreThere, IsDraft}
 use Rattle.vault_journal.specs.Spelling.{in_two, in_four, ItemFits}
 use Rattle.vault_journal.specs.Reading.{u16_at}
 use Rattle.vault_journal.proofs.OneSpelling.{fields_are_spelled}
-use Rattle.vault_model.proofs.OneDrafts.{one_drafts}
+use Rattle.vault_state.proofs.OneDrafts.{one_drafts}
 use Rattle.vault_format.specs.declared.version.FileVersion.{FileVersion}
 use Rattle.vault_format.specs.Snapshot.{current_version, spelling_of, places_bytes, claim_bytes, IsNoteIn, number_of, designer_of, HasSnapshot, HasSpelling}
 use Rattle.vault_format.proofs.OneReading.{one_spelled, one_number}

@@ -5,16 +5,16 @@ use Rattle.std.proofs.lemmas.Bool.{eqb-true}
 use Rattle.std.proofs.lemmas.List.{length-map}
 use Rattle.std.proofs.lemmas.List.Folds.{flat_map-map}
 use Rattle.std.proofs.lemmas.List.Elements.{All-map}
-use Rattle.vault_model.specs.declared.claims.Claim.{Claim}
-use Rattle.vault_model.specs.declared.claims.Item.{Item}
-use Rattle.vault_model.specs.declared.claims.Owner.TheVariants as owners
-use Rattle.vault_model.specs.declared.claims.Standing.TheVariants.{Held}
-use Rattle.vault_model.specs.declared.ids.ClaimId.{ClaimId}
-use Rattle.vault_model.specs.declared.ids.ClaimId.TheVariants.{Long, Short}
-use Rattle.vault_model.specs.declared.place.Place.{Place}
-use Rattle.vault_model.specs.Claims.{same_id, claim_of, standing_of, new_check_out, noted_as}
-use Rattle.vault_model.specs.Drafts.{SavedDraft, drafts_of}
-use Rattle.vault_model.specs.Vault.{Vault}
+use Rattle.vault_state.specs.declared.claims.Claim.{Claim}
+use Rattle.vault_state.specs.declared.claims.Item.{Item}
+use Rattle.vault_state.specs.declared.claims.Owner.TheVariants as owners
+use Rattle.vault_state.specs.declared.claims.Standing.TheVariants.{Held}
+use Rattle.vault_state.specs.declared.ids.ClaimId.{ClaimId}
+use Rattle.vault_state.specs.declared.ids.ClaimId.TheVariants.{Long, Short}
+use Rattle.vault_state.specs.declared.place.Place.{Place}
+use Rattle.vault_state.specs.Claims.{same_id, claim_of, standing_of, new_check_out, noted_as}
+use Rattle.vault_state.specs.Drafts.{SavedDraft, drafts_of}
+use Rattle.vault_state.specs.Vault.{Vault}
 use Rattle.vault_journal.specs.Spelling.{in_four, name_bytes, items_bytes}
 use Rattle.vault_journal.specs.Laws.{IsInverse}
 use Rattle.vault_journal.proofs.OneSpelling.{fields_are_spelled}
@@ -23,7 +23,7 @@ use Rattle.vault_format.specs.declared.version.FileVersion.TheVariants.{One, Two
 pub use Rattle.vault_format.specs.Claims.{Drafted, drafted_bytes, drafted, HasClaim}
 use Rattle.vault_format.specs.Claims.{note_before}
 use Rattle.vault_format.specs.Snapshot.{number_of, designer_of, note_field, IsNoteIn, drafts_bytes, claim_bytes}
-use Rattle.vault_model.proofs.OneDrafts.{no_drafts_of}
+use Rattle.vault_state.proofs.OneDrafts.{no_drafts_of}
 use Rattle.vault_format.proofs.OneReading.{one_number, one_spelled, some_pair}
 use Rattle.vault_format.proofs.SpelledLists.{Tells, name_tells, items_tell, drafts_tell, lists_tell}
 

@@ -3,10 +3,10 @@ use Rattle.std.proofs.Common.{◌≡◌, ℕ, ◌<◌, ◌≤◌, ◌^◌, List,
 use Rattle.std.specs.List.{flat_map}
 use Rattle.std.proofs.lemmas.List.Concat.{flat_map-cons}
 use Rattle.std.proofs.lemmas.List.Elements.{All-head, All-tail}
-use Rattle.vault_model.specs.Limits.{most_versions}
-use Rattle.vault_model.specs.Name.{IsName}
-use Rattle.vault_model.specs.Note.{IsNote}
-use Rattle.vault_model.specs.Shelf.{draft_at}
+use Rattle.vault_state.specs.Limits.{most_versions}
+use Rattle.vault_state.specs.Name.{IsName}
+use Rattle.vault_state.specs.Note.{IsNote}
+use Rattle.vault_state.specs.Shelf.{draft_at}
 use Rattle.vault_journal.specs.Spelling.{in_two, in_four, name_bytes, items_bytes, content_bytes, note_bytes, longest_content, AreItems}
 use Rattle.vault_journal.specs.Reading.{u16_at, name_at, items_at, content_at, note_at}
 use Rattle.vault_journal.proofs.OneSpelling.{fields_are_spelled}

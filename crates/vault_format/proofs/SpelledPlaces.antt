@@ -5,15 +5,15 @@ use Rattle.std.specs.Option.{option_map, option_map_or}
 use Rattle.std.proofs.lemmas.Bool.{cases_lt}
 use Rattle.std.proofs.lemmas.List.{ext_get_or, get_or_past}
 use Rattle.std.proofs.lemmas.List.Elements.{All-head, All-tail}
-use Rattle.vault_model.specs.declared.place.Place.{Place}
-use Rattle.vault_model.specs.Name.{IsName}
-use Rattle.vault_model.specs.declared.place.Kind.{Kind}
-use Rattle.vault_model.specs.declared.place.Kind.TheVariants.{Library}
-use Rattle.vault_model.specs.Tree.{parent_of, depth_within, depth, kind_of, is_part_kind, is_part, may_stand, new_place, IsTree}
-use Rattle.vault_model.specs.Shelf.{versions_of, IsShelf}
-use Rattle.vault_model.specs.Vault.{Vault}
-use Rattle.vault_model.proofs.Walks.{Rises, same_at, depth-step}
-use Rattle.vault_model.proofs.Lists.{slice_get-front}
+use Rattle.vault_state.specs.declared.place.Place.{Place}
+use Rattle.vault_state.specs.Name.{IsName}
+use Rattle.vault_state.specs.declared.place.Kind.{Kind}
+use Rattle.vault_state.specs.declared.place.Kind.TheVariants.{Library}
+use Rattle.vault_state.specs.Tree.{parent_of, depth_within, depth, kind_of, is_part_kind, is_part, may_stand, new_place, IsTree}
+use Rattle.vault_state.specs.Shelf.{versions_of, IsShelf}
+use Rattle.vault_state.specs.Vault.{Vault}
+use Rattle.vault_state.proofs.Walks.{Rises, same_at, depth-step}
+use Rattle.vault_state.proofs.Lists.{slice_get-front}
 use Rattle.vault_journal.specs.Spelling.{in_four, name_bytes}
 use Rattle.vault_format.specs.declared.version.FileVersion.{FileVersion}
 use Rattle.vault_format.specs.Snapshot.{versions_bytes, versions_field, kind_field, kind_bytes, places_bytes, IsKindIn, AreKindsIn}

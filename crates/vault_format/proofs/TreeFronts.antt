@@ -9,15 +9,15 @@ use Rattle.std.proofs.lemmas.Bool.Decides.{nat_tests}
 use Rattle.std.proofs.lemmas.Option.{slice_get_past, slice_get_within, slice_get-get_or}
 use Rattle.std.proofs.lemmas.List.Sums.{prefix_len_is, sum_by-append}
 use Rattle.std.proofs.lemmas.Slice.Eq.{bytes_eq-Decides}
-use Rattle.vault_model.specs.declared.place.Place.{Place}
-use Rattle.vault_model.specs.Limits.{most_places, most_children}
-use Rattle.vault_model.specs.declared.place.Kind.{Kind}
-use Rattle.vault_model.specs.declared.place.Kind.TheVariants.{Library}
-use Rattle.vault_model.specs.Tree.{parent_of, depth, kind_of, is_part_kind, is_part, may_stand, is_child, child, children_count, is_full, IsTree}
-use Rattle.vault_model.proofs.Walks.{Rises, depth-top}
-use Rattle.vault_model.proofs.Growth.{slice_get-push_old, slice_get-push_new, parent_of-push_new, kind_of-push_new, is_part-push, depth-push, depth-push_new, children_count-push}
-use Rattle.vault_model.proofs.Overlaps.{and_both, eq_from, eq_itself}
-use Rattle.vault_model.proofs.Lists.{slice_get-front}
+use Rattle.vault_state.specs.declared.place.Place.{Place}
+use Rattle.vault_state.specs.Limits.{most_places, most_children}
+use Rattle.vault_state.specs.declared.place.Kind.{Kind}
+use Rattle.vault_state.specs.declared.place.Kind.TheVariants.{Library}
+use Rattle.vault_state.specs.Tree.{parent_of, depth, kind_of, is_part_kind, is_part, may_stand, is_child, child, children_count, is_full, IsTree}
+use Rattle.vault_state.proofs.Walks.{Rises, depth-top}
+use Rattle.vault_state.proofs.Growth.{slice_get-push_old, slice_get-push_new, parent_of-push_new, kind_of-push_new, is_part-push, depth-push, depth-push_new, children_count-push}
+use Rattle.vault_state.proofs.Overlaps.{and_both, eq_from, eq_itself}
+use Rattle.vault_state.proofs.Lists.{slice_get-front}
 use Rattle.design_tree.specs.Added.{refusal}
 use Rattle.vault_format.specs.declared.version.FileVersion.{FileVersion}
 use Rattle.vault_format.specs.Snapshot.{IsKindIn, AreKindsIn}

@@ -2,9 +2,9 @@
 use Rattle.std.proofs.Common.{◌≡◌, ℕ, ◌+◌, ◌<◌, ◌≤◌, ◌^◌, false, List, [], ◌∷◌, ◌++◌, length, Some, None, refl, sym, ◌∙◌, ap, subst, arith, append_assoc, All}
 use Rattle.std.specs.List.{flat_map}
 use Rattle.std.proofs.lemmas.List.{length-append}
-use Rattle.vault_model.specs.Limits.{most_versions}
-use Rattle.vault_model.specs.Shelf.{Draft, versions_of, shelved, shelved_all, is_shelvable, IsShelf, draft_at}
-use Rattle.vault_model.proofs.Lists.{All-front, All-back}
+use Rattle.vault_state.specs.Limits.{most_versions}
+use Rattle.vault_state.specs.Shelf.{Draft, versions_of, shelved, shelved_all, is_shelvable, IsShelf, draft_at}
+use Rattle.vault_state.proofs.Lists.{All-front, All-back}
 use Rattle.vault_journal.specs.Laws.{AreBytes}
 use Rattle.vault_journal.specs.Reading.{u16_at, content_at}
 use Rattle.vault_journal.specs.Spelling.{in_two, content_bytes}

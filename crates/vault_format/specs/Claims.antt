@@ -1,13 +1,13 @@
 -- The claims of a snapshot with their drafts, and what the functions that read them return. This project's own.
 use Rattle.std.specs.Prelude.{◌≡◌, ◌≢◌, ℕ, ◌<◌, ◌≤◌, ◌^◌, List, [], ◌∷◌, ◌++◌, length, map, All, Option, Some}
 use Rattle.std.specs.List.{flat_map}
-use Rattle.vault_model.specs.declared.claims.Claim.{Claim}
-use Rattle.vault_model.specs.declared.claims.Owner.TheVariants as owners
-use Rattle.vault_model.specs.declared.ids.ClaimId.TheVariants.{Long}
-use Rattle.vault_model.specs.Limits.{longest_content, most_drafts, most_claims}
-use Rattle.vault_model.specs.Name.{IsName}
-use Rattle.vault_model.specs.Shelf.{Draft}
-use Rattle.vault_model.specs.Drafts.{SavedDraft, drafts_of}
+use Rattle.vault_state.specs.declared.claims.Claim.{Claim}
+use Rattle.vault_state.specs.declared.claims.Owner.TheVariants as owners
+use Rattle.vault_state.specs.declared.ids.ClaimId.TheVariants.{Long}
+use Rattle.vault_state.specs.Limits.{longest_content, most_drafts, most_claims}
+use Rattle.vault_state.specs.Name.{IsName}
+use Rattle.vault_state.specs.Shelf.{Draft}
+use Rattle.vault_state.specs.Drafts.{SavedDraft, drafts_of}
 use Rattle.vault_journal.specs.Spelling.{in_two, in_four, name_bytes, items_bytes, AreItems}
 use Rattle.vault_journal.specs.Reading.{note_at}
 use Rattle.vault_format.specs.declared.version.FileVersion.{FileVersion}

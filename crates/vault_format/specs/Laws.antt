@@ -1,6 +1,6 @@
 -- What is promised of the spellings of a vault. This project's own.
 use Rattle.std.specs.Prelude.{◌≡◌, ℕ, ◌<◌, ◌≤◌, ◌^◌, length}
-use Rattle.vault_model.specs.Vault.{Vault}
+use Rattle.vault_state.specs.Vault.{Vault}
 use Rattle.vault_format.specs.declared.version.FileVersion.{FileVersion}
 use Rattle.vault_format.specs.declared.sizes.TheConstants.{MAX_SNAPSHOT}
 use Rattle.vault_format.specs.Snapshot.{current_version, snapshot_of, spelling_of, HasSnapshot, HasSpelling}

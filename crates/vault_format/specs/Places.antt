@@ -1,14 +1,14 @@
 -- The places of a snapshot, and what the functions that read them return, part by part. This project's own.
 use Rattle.std.specs.Prelude.{◌≡◌, ◌≢◌, ℕ, suc, ◌+◌, ◌^◌, ◌<◌, ◌≤◌, ◌==◌, true, false, if◌then◌else◌, List, [], ◌∷◌, ◌++◌, length, Option, None, Some, All}
 use Rattle.std.specs.List.{flat_map}
-use Rattle.vault_model.specs.declared.place.Place.{Place}
-use Rattle.vault_model.specs.Limits.{longest_content}
-use Rattle.vault_model.specs.Name.{IsName}
-use Rattle.vault_model.specs.declared.place.Kind.{Kind}
-use Rattle.vault_model.specs.declared.place.Kind.TheVariants.{Library, Project, Assembly, Part}
-use Rattle.vault_model.specs.Tree.{depth, kind_of, is_part_kind, kind_under, IsTree}
-use Rattle.vault_model.specs.Shelf.{versions_of, shelved, IsShelf}
-use Rattle.vault_model.specs.Vault.{Vault, AreVersions, new_vault}
+use Rattle.vault_state.specs.declared.place.Place.{Place}
+use Rattle.vault_state.specs.Limits.{longest_content}
+use Rattle.vault_state.specs.Name.{IsName}
+use Rattle.vault_state.specs.declared.place.Kind.{Kind}
+use Rattle.vault_state.specs.declared.place.Kind.TheVariants.{Library, Project, Assembly, Part}
+use Rattle.vault_state.specs.Tree.{depth, kind_of, is_part_kind, kind_under, IsTree}
+use Rattle.vault_state.specs.Shelf.{versions_of, shelved, IsShelf}
+use Rattle.vault_state.specs.Vault.{Vault, AreVersions, new_vault}
 use Rattle.vault_journal.specs.Spelling.{in_four, name_bytes, content_bytes}
 use Rattle.design_tree.specs.declared.tree.AddError.{AddError}
 use Rattle.design_tree.specs.declared.tree.AddError.TheVariants as unmade

@@ -1,19 +1,19 @@
 -- The spellings of a durable vault, one in each version of the files. This project's own.
 use Rattle.std.specs.Prelude.{◌≡◌, ℕ, suc, ◌+◌, Bool, true, false, List, [], ◌∷◌, ◌++◌, length, slice_get, Some, All}
 use Rattle.std.specs.List.{flat_map}
-use Rattle.vault_model.specs.declared.place.Place.{Place}
-use Rattle.vault_model.specs.declared.claims.Claim.{Claim}
-use Rattle.vault_model.specs.declared.claims.Owner.{Owner}
-use Rattle.vault_model.specs.declared.claims.Owner.TheVariants as owners
-use Rattle.vault_model.specs.declared.ids.ClaimId.{ClaimId}
-use Rattle.vault_model.specs.declared.ids.ClaimId.TheVariants.{Long, Short}
-use Rattle.vault_model.specs.Name.{IsName}
-use Rattle.vault_model.specs.Note.{IsNote}
-use Rattle.vault_model.specs.declared.place.Kind.{Kind}
-use Rattle.vault_model.specs.Tree.{depth, is_part, kind_at}
-use Rattle.vault_model.specs.Shelf.{Draft, versions_of}
-use Rattle.vault_model.specs.Drafts.{drafts_of}
-use Rattle.vault_model.specs.Vault.{Vault, IsVault}
+use Rattle.vault_state.specs.declared.place.Place.{Place}
+use Rattle.vault_state.specs.declared.claims.Claim.{Claim}
+use Rattle.vault_state.specs.declared.claims.Owner.{Owner}
+use Rattle.vault_state.specs.declared.claims.Owner.TheVariants as owners
+use Rattle.vault_state.specs.declared.ids.ClaimId.{ClaimId}
+use Rattle.vault_state.specs.declared.ids.ClaimId.TheVariants.{Long, Short}
+use Rattle.vault_state.specs.Name.{IsName}
+use Rattle.vault_state.specs.Note.{IsNote}
+use Rattle.vault_state.specs.declared.place.Kind.{Kind}
+use Rattle.vault_state.specs.Tree.{depth, is_part, kind_at}
+use Rattle.vault_state.specs.Shelf.{Draft, versions_of}
+use Rattle.vault_state.specs.Drafts.{drafts_of}
+use Rattle.vault_state.specs.Vault.{Vault, IsVault}
 use Rattle.vault_model.specs.After.{IsDurable}
 use Rattle.vault_journal.specs.Spelling.{in_two, in_four, name_bytes, items_bytes, content_bytes, note_bytes}
 use Rattle.vault_format.specs.declared.version.FileVersion.{FileVersion}

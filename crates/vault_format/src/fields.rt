@@ -3,11 +3,11 @@
 
 ghost use Rattle.std.specs.Prelude.{◌≡◌, ◌<◌, ◌≤◌, ◌-◌, All, length, slice_get, Some, true};
 ghost use Rattle.std.specs.List.{flat_map};
-ghost use Rattle.vault_model.specs.Limits.{longest_content, most_drafts};
-ghost use Rattle.vault_model.specs.Shelf.{Draft, versions_of};
+ghost use Rattle.vault_state.specs.Limits.{longest_content, most_drafts};
+ghost use Rattle.vault_state.specs.Shelf.{Draft, versions_of};
 ghost use Rattle.vault_journal.specs.Spelling.{in_two, in_four, name_bytes, item_bytes, items_bytes, content_bytes, note_bytes};
-ghost use Rattle.vault_model.specs.Tree.{is_part};
-ghost use Rattle.vault_model.specs.declared.place.Place.{Place};
+ghost use Rattle.vault_state.specs.Tree.{is_part};
+ghost use Rattle.vault_state.specs.declared.place.Place.{Place};
 ghost use Rattle.vault_format.specs.Snapshot.{current_version, designer_of, draft_bytes, drafts_bytes, kind_byte, kind_bytes, number_of, versions_bytes};
 ghost use Rattle.vault_format.specs.Adds.{Adds};
 

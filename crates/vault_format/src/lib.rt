@@ -6,7 +6,7 @@
 //! `read_claims`). If the bytes end within a place, the whole places before it are read (`read_places_on`). Each writer adds the one
 //! spelling of its field (`fields`). Four bytes give a version exactly if they are its number (`version_of`). Each durable vault has at
 //! most one spelling in each version of the files (`laws`).
-//! Stands on: vault_model, vault_journal, design_tree, part_versions. Must not know: devices, books, commits, which file is active.
+//! Stands on: vault_state, vault_model, vault_journal, design_tree, part_versions. Must not know: devices, books, commits, which file is active.
 //!
 //! Only tested: that memory is allocated only where a field needs it.
 //! Start at: docs/FORMAT.md; specs/Files.antt, the two files; specs/Snapshot.antt, the spelling of a vault; places.rt and claims.rt.

@@ -1,7 +1,7 @@
 //! The places of a snapshot, with the versions of parts.
 ghost use Rattle.std.specs.Prelude.{◌≡◌, ◌+◌, ◌<◌, ◌≤◌, ◌++◌, List, ℕ, [], None, Err, IfOk, IfSome, length};
-ghost use Rattle.vault_model.specs.Shelf.{IsShelf};
-ghost use Rattle.vault_model.specs.Vault.{AreVersions};
+ghost use Rattle.vault_state.specs.Shelf.{IsShelf};
+ghost use Rattle.vault_state.specs.Vault.{AreVersions};
 ghost use Rattle.vault_format.specs.declared.error.SnapshotError.TheVariants.{NotWellFormed};
 ghost use Rattle.vault_format.specs.Snapshot.{current_version};
 ghost use Rattle.vault_format.specs.Places.{told_of, ArePlacesAt, BeginsWithNoPlaces, AreReadOn, ArePlaces, IsVersionRead, BeginsWithNoVersion, AreVersionsRead, BeginsWithNoVersions, no_part_under, kind_before, IsPlaceAdded, BeginsWithNoName, IsPlaceRead, BeginsWithNoPlace, AreContentsAt, BeginsWithFewerContents, AreFieldsAt, BeginsWithNoFields, BeginsWithFewerPlaces};

@@ -8,16 +8,16 @@ use Rattle.std.proofs.lemmas.List.Elements.{All-head, All-tail}
 use Rattle.std.proofs.lemmas.List.{at_drop_all, at_drop_more, take_all}
 use Rattle.std.proofs.lemmas.List.Sums.{sum_by-cons, sum_by-append}
 use Rattle.std.proofs.lemmas.Option.{get_or_from_slice_get, slice_get_within}
-use Rattle.vault_model.specs.declared.claims.Claim.{Claim}
-use Rattle.vault_model.specs.declared.ids.ClaimId.{ClaimId}
-use Rattle.vault_model.specs.declared.ids.ClaimId.TheVariants.{Long, Short}
-use Rattle.vault_model.specs.declared.place.Place.{Place}
-use Rattle.vault_model.specs.Claims.{same_id}
-use Rattle.vault_model.specs.Drafts.{SavedDraft, drafts_of, saved_weight}
-use Rattle.vault_model.specs.Limits.{most_weight}
-use Rattle.vault_model.specs.Shelf.{Draft, content_weight, drafts_weight, weight}
-use Rattle.vault_model.specs.Vault.{Vault, IsVault, IsDraft}
-use Rattle.vault_model.proofs.Stays.{ids, held_there}
+use Rattle.vault_state.specs.declared.claims.Claim.{Claim}
+use Rattle.vault_state.specs.declared.ids.ClaimId.{ClaimId}
+use Rattle.vault_state.specs.declared.ids.ClaimId.TheVariants.{Long, Short}
+use Rattle.vault_state.specs.declared.place.Place.{Place}
+use Rattle.vault_state.specs.Claims.{same_id}
+use Rattle.vault_state.specs.Drafts.{SavedDraft, drafts_of, saved_weight}
+use Rattle.vault_state.specs.Limits.{most_weight}
+use Rattle.vault_state.specs.Shelf.{Draft, content_weight, drafts_weight, weight}
+use Rattle.vault_state.specs.Vault.{Vault, IsVault, IsDraft}
+use Rattle.vault_state.proofs.Stays.{ids, held_there}
 use Rattle.vault_inspector.specs.Figures.{own_weight, draft_weight, WeightIsTotal}
 use Rattle.vault_inspector.proofs.Counting.{one_has}
 

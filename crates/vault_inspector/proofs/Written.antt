@@ -9,11 +9,11 @@ use Rattle.std.proofs.Math.Seq.{split_at}
 use Rattle.std.proofs.lemmas.Grind.{flat_map-append}
 use Rattle.std.proofs.lemmas.List.{take_more}
 use Rattle.std.proofs.lemmas.List.Concat.{flat_map-cons}
-use Rattle.vault_model.specs.declared.claims.Item.{Item}
-use Rattle.vault_model.specs.declared.ids.Intent.{Intent}
-use Rattle.vault_model.specs.declared.place.Place.{Place}
-use Rattle.vault_model.specs.Path.{path_text}
-use Rattle.vault_model.specs.Tree.{path_of}
+use Rattle.vault_state.specs.declared.claims.Item.{Item}
+use Rattle.vault_state.specs.declared.ids.Intent.{Intent}
+use Rattle.vault_state.specs.declared.place.Place.{Place}
+use Rattle.vault_state.specs.Path.{path_text}
+use Rattle.vault_state.specs.Tree.{path_of}
 use Rattle.vault_inspector.specs.Output.{GetsPart, Writes}
 use Rattle.vault_inspector.specs.Texts.{intent_text, item_text}
 

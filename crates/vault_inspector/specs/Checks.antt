@@ -1,6 +1,6 @@
 -- What is said of two files, and of a vault's limits. This project's own.
 use Rattle.std.specs.Prelude.{ℕ, ◌*◌, ◌/◌, Bool, ◌&&◌, nat_le, nat_lt, if◌then◌else◌, List, [], ◌∷◌, ◌++◌, codes, decimal, Option, None, Some}
-use Rattle.vault_model.specs.Limits.{most_places, most_children, most_claims, most_versions, most_weight, last_number}
+use Rattle.vault_state.specs.Limits.{most_places, most_children, most_claims, most_versions, most_weight, last_number}
 use Rattle.vault_store.specs.declared.opening.File.TheVariants.{First, Second}
 use Rattle.vault_store.specs.declared.opening.OpenError.{OpenError}
 use Rattle.vault_store.specs.declared.opening.OpenError.TheVariants as errors

@@ -1,12 +1,12 @@
 -- How many versions and drafts there are in a vault. This project's own.
 use Rattle.std.specs.Prelude.{◌≡◌, ℕ, ◌+◌, List, length, map, sum_by}
 use Rattle.std.specs.List.{range_with_len}
-use Rattle.vault_model.specs.declared.claims.Claim.{Claim}
-use Rattle.vault_model.specs.declared.ids.ClaimId.{ClaimId}
-use Rattle.vault_model.specs.declared.ids.ClaimId.TheVariants.{Long, Short}
-use Rattle.vault_model.specs.Drafts.{SavedDraft, drafts_of}
-use Rattle.vault_model.specs.Shelf.{versions_of}
-use Rattle.vault_model.specs.Vault.{Vault, IsVault}
+use Rattle.vault_state.specs.declared.claims.Claim.{Claim}
+use Rattle.vault_state.specs.declared.ids.ClaimId.{ClaimId}
+use Rattle.vault_state.specs.declared.ids.ClaimId.TheVariants.{Long, Short}
+use Rattle.vault_state.specs.Drafts.{SavedDraft, drafts_of}
+use Rattle.vault_state.specs.Shelf.{versions_of}
+use Rattle.vault_state.specs.Vault.{Vault, IsVault}
 
 -- how many versions all places have together, the library included
 abbrev pub version_count : Vault → ℕ

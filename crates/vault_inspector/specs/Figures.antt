@@ -1,15 +1,15 @@
 -- How full a vault is: what is used of each limit that its files show. This project's own.
 use Rattle.std.specs.Prelude.{◌≡◌, ◌⊎◌, ℕ, ◌+◌, ◌<◌, ◌≤◌, Bool, true, false, List, length, Option, None, Some, sum_by, count_by}
-use Rattle.vault_model.specs.declared.claims.Claim.{Claim}
-use Rattle.vault_model.specs.declared.claims.Standing.{Standing}
-use Rattle.vault_model.specs.declared.claims.Standing.TheVariants.{Held, Queued}
-use Rattle.vault_model.specs.declared.ids.ClaimId.{ClaimId}
-use Rattle.vault_model.specs.declared.ids.ClaimId.TheVariants.{Long, Short}
-use Rattle.vault_model.specs.Claims.{standing_of}
-use Rattle.vault_model.specs.Drafts.{SavedDraft, drafts_of, saved_weight}
-use Rattle.vault_model.specs.Shelf.{drafts_weight, versions_of, weight}
-use Rattle.vault_model.specs.Tree.{children_of}
-use Rattle.vault_model.specs.Vault.{Vault, IsVault, weight_of}
+use Rattle.vault_state.specs.declared.claims.Claim.{Claim}
+use Rattle.vault_state.specs.declared.claims.Standing.{Standing}
+use Rattle.vault_state.specs.declared.claims.Standing.TheVariants.{Held, Queued}
+use Rattle.vault_state.specs.declared.ids.ClaimId.{ClaimId}
+use Rattle.vault_state.specs.declared.ids.ClaimId.TheVariants.{Long, Short}
+use Rattle.vault_state.specs.Claims.{standing_of}
+use Rattle.vault_state.specs.Drafts.{SavedDraft, drafts_of, saved_weight}
+use Rattle.vault_state.specs.Shelf.{drafts_weight, versions_of, weight}
+use Rattle.vault_state.specs.Tree.{children_of}
+use Rattle.vault_state.specs.Vault.{Vault, IsVault, weight_of}
 use Rattle.vault_inspector.specs.declared.figures.Figures.{Figures}
 use Rattle.vault_inspector.specs.Counts.{version_count, own_drafts, draft_count}
 

@@ -1,6 +1,6 @@
 -- What the parts of an inspection answer. This project's own.
 use Rattle.std.specs.Prelude.{◌≡◌, ℕ, ◌==◌, ◌<◌, ◌≤◌, length, nat_lt, if◌then◌else◌, List, Option, None, Some}
-use Rattle.vault_model.specs.Vault.{Vault}
+use Rattle.vault_state.specs.Vault.{Vault}
 use Rattle.vault_store.specs.declared.front.Head.{Head}
 use Rattle.vault_store.specs.declared.front.Head.TheVariants as heads
 use Rattle.vault_store.specs.declared.body.BodyError.{BodyError}

@@ -1,6 +1,6 @@
 -- What each of two files is found to be, by the bytes of both. This project's own.
 use Rattle.std.specs.Prelude.{◌≡◌, ◌⊎◌, ℕ, ◌<◌, ◌≤◌, List, Option, None, Some}
-use Rattle.vault_model.specs.Vault.{Vault}
+use Rattle.vault_state.specs.Vault.{Vault}
 use Rattle.vault_store.specs.declared.opening.OpenError.{OpenError}
 use Rattle.vault_format.specs.declared.version.FileVersion.{FileVersion}
 use Rattle.vault_format.specs.Files.{IsClosedFile, StandFor, HasHead, HasRightHead}

@@ -2,21 +2,21 @@
 use Rattle.std.specs.Prelude.{ℕ, ◌+◌, List, [], ◌∷◌, ◌++◌, codes, decimal, length, Option, None, Some}
 use Rattle.std.specs.List.{flat_map}
 use Rattle.hex.specs.Hex.{encode_lower}
-use Rattle.vault_model.specs.declared.ids.ClaimId.{ClaimId}
-use Rattle.vault_model.specs.declared.ids.ClaimId.TheVariants.{Long, Short}
-use Rattle.vault_model.specs.declared.ids.Intent.{Intent}
-use Rattle.vault_model.specs.declared.ids.Intent.TheVariants.{Look, Change}
-use Rattle.vault_model.specs.declared.place.Place.{Place}
-use Rattle.vault_model.specs.declared.claims.Item.{Item}
-use Rattle.vault_model.specs.declared.claims.Claim.{Claim}
-use Rattle.vault_model.specs.declared.claims.Owner.{Owner}
-use Rattle.vault_model.specs.declared.claims.Owner.TheVariants as owners
-use Rattle.vault_model.specs.declared.claims.Standing.{Standing}
-use Rattle.vault_model.specs.declared.claims.Standing.TheVariants.{Held, Queued}
-use Rattle.vault_model.specs.Tree.{path_of}
-use Rattle.vault_model.specs.Path.{path_text}
-use Rattle.vault_model.specs.Claims.{standing_of}
-use Rattle.vault_model.specs.Vault.{Vault}
+use Rattle.vault_state.specs.declared.ids.ClaimId.{ClaimId}
+use Rattle.vault_state.specs.declared.ids.ClaimId.TheVariants.{Long, Short}
+use Rattle.vault_state.specs.declared.ids.Intent.{Intent}
+use Rattle.vault_state.specs.declared.ids.Intent.TheVariants.{Look, Change}
+use Rattle.vault_state.specs.declared.place.Place.{Place}
+use Rattle.vault_state.specs.declared.claims.Item.{Item}
+use Rattle.vault_state.specs.declared.claims.Claim.{Claim}
+use Rattle.vault_state.specs.declared.claims.Owner.{Owner}
+use Rattle.vault_state.specs.declared.claims.Owner.TheVariants as owners
+use Rattle.vault_state.specs.declared.claims.Standing.{Standing}
+use Rattle.vault_state.specs.declared.claims.Standing.TheVariants.{Held, Queued}
+use Rattle.vault_state.specs.Tree.{path_of}
+use Rattle.vault_state.specs.Path.{path_text}
+use Rattle.vault_state.specs.Claims.{standing_of}
+use Rattle.vault_state.specs.Vault.{Vault}
 use Rattle.vault_format.specs.declared.version.FileVersion.{FileVersion}
 use Rattle.vault_format.specs.declared.version.FileVersion.TheVariants.{One, Two}
 use Rattle.vault_inspector.specs.declared.report.FileState.{FileState}

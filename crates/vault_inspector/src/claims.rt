@@ -4,10 +4,10 @@
 ghost use Rattle.std.specs.Prelude.{◌≡◌, ◌<◌, ◌≤◌, ◌∷◌, ◌++◌, codes, length, slice_get, Some};
 ghost use Rattle.std.specs.List.{flat_map};
 ghost use Rattle.hex.specs.Hex.{encode_lower};
-ghost use Rattle.vault_model.specs.Claims.{standing_of};
-ghost use Rattle.vault_model.specs.Limits.{longest_note};
-ghost use Rattle.vault_model.specs.Path.{path_text};
-ghost use Rattle.vault_model.specs.Tree.{path_of};
+ghost use Rattle.vault_state.specs.Claims.{standing_of};
+ghost use Rattle.vault_state.specs.Limits.{longest_note};
+ghost use Rattle.vault_state.specs.Path.{path_text};
+ghost use Rattle.vault_state.specs.Tree.{path_of};
 ghost use Rattle.vault_inspector.specs.Output.{Writes};
 ghost use Rattle.vault_inspector.specs.Texts.{claim_line, claim_text, item_text, note_text, owner_text, standing_text};
 

@@ -1,9 +1,9 @@
 //! How full a vault is.
 ghost use Rattle.std.specs.Prelude.{◌≡◌, ◌+◌, ◌<◌, ◌≤◌, IfOk, length};
-ghost use Rattle.vault_model.specs.Limits.{most_weight};
-ghost use Rattle.vault_model.specs.Shelf.{drafts_weight, weight};
+ghost use Rattle.vault_state.specs.Limits.{most_weight};
+ghost use Rattle.vault_state.specs.Shelf.{drafts_weight, weight};
 ghost use Rattle.vault_inspector.specs.Figures.{AreFigures, IsGreatest, children_at, draft_weight, own_weight, stands, standing_count, versions_at};
-ghost use Rattle.vault_model.specs.Claims.{standing_of};
+ghost use Rattle.vault_state.specs.Claims.{standing_of};
 
 use crate::claims::{claim_at, standing_in};
 use crate::counts::{draft_count, version_count};

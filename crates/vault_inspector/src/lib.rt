@@ -5,7 +5,7 @@
 //! are those of all versions and all drafts (`laws`). The figures, with what is used of each limit, are those of the vault
 //! (`figures_of`, `Figures::limits`), and the weight is that of all versions and drafts (`laws`). The sentences on a file and on
 //! a limit are as defined (`Display`).
-//! Stands on: vault_model, vault_device, vault_journal, design_tree, vault_checkout, vault_store. Must not know: the history,
+//! Stands on: vault_state, vault_model, vault_device, vault_journal, design_tree, vault_checkout, vault_store. Must not know: the history,
 //! how to mend a file.
 //!
 //! Invariants: none; contracts relate a report to the bytes of both files.

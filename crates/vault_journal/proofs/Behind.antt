@@ -5,7 +5,7 @@ use Rattle.std.proofs.lemmas.List.{flat_map_more, take_more}
 use Rattle.vault_device.specs.Disk.{overwritten}
 use Rattle.vault_device.proofs.Torn.{overwritten_twice}
 use Rattle.vault_model.specs.Said.{Effect}
-use Rattle.vault_model.specs.declared.claims.Item.{Item}
+use Rattle.vault_state.specs.declared.claims.Item.{Item}
 use Rattle.vault_journal.specs.Spelling.{item_bytes, record_of}
 use Rattle.vault_journal.specs.Written.{IsWritten}
 

@@ -3,8 +3,8 @@ use Rattle.std.proofs.Common.{◌≡◌, ℕ, true, cond, eqb, List, ◌∷◌, 
 use Rattle.std.proofs.lemmas.Bool.{eqb-true}
 use Rattle.vault_model.specs.Said.{Effect}
 use Rattle.vault_model.specs.declared.effects.Effect.TheVariants.{Made, Nested, Asked, Extended, Saved, CheckedIn, Abandoned, Given, Noted}
-use Rattle.vault_model.specs.declared.claims.Item.{Item}
-use Rattle.vault_model.proofs.Lists.{chosen}
+use Rattle.vault_state.specs.declared.claims.Item.{Item}
+use Rattle.vault_state.proofs.Lists.{chosen}
 use Rattle.vault_journal.specs.Spelling.{in_four, name_bytes, items_bytes, content_bytes, note_bytes, record_of, HasRecord}
 use Rattle.vault_journal.specs.Reading.{◌>>=◌, u8_at, u32_at, name_at, items_at, content_at, note_at, claim_at, made_at, asked_at, extended_at, saved_at, checked_in_at, abandoned_at, given_at, noted_at, nested_at, effect_of_kind, effect_at}
 use Rattle.vault_journal.specs.Laws.{AreBytes}

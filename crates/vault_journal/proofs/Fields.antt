@@ -8,12 +8,12 @@ use Rattle.std.proofs.lemmas.Bool.Decides.{nat_tests}
 use Rattle.std.proofs.lemmas.List.{take_at, drop_at, take-append-drop, length-append, length-take}
 use Rattle.std.proofs.lemmas.List.Concat.{flat_map-cons}
 use Rattle.std.proofs.lemmas.Nat.{be_bytes_2, be_bytes_4, be_bytes_8, from_be_bytes-to_be_bytes_2, from_be_bytes-to_be_bytes_4, from_be_bytes-to_be_bytes_8}
-use Rattle.vault_model.specs.Name.{IsName, is_name}
-use Rattle.vault_model.specs.Note.{IsNote, is_note}
-use Rattle.vault_model.specs.Limits.{most_items}
-use Rattle.vault_model.specs.declared.ids.Intent.{Intent}
-use Rattle.vault_model.specs.declared.ids.Intent.TheVariants.{Look, Change}
-use Rattle.vault_model.specs.declared.claims.Item.{Item}
+use Rattle.vault_state.specs.Name.{IsName, is_name}
+use Rattle.vault_state.specs.Note.{IsNote, is_note}
+use Rattle.vault_state.specs.Limits.{most_items}
+use Rattle.vault_state.specs.declared.ids.Intent.{Intent}
+use Rattle.vault_state.specs.declared.ids.Intent.TheVariants.{Look, Change}
+use Rattle.vault_state.specs.declared.claims.Item.{Item}
 use Rattle.vault_journal.specs.Spelling.{in_two, in_four, in_eight, name_bytes, item_bytes, items_bytes, content_bytes, note_bytes, longest_content, ItemFits, AreItems, IsClaimNumber}
 use Rattle.vault_journal.specs.Reading.{◌>>=◌, u8_at, u16_at, u32_at, u64_at, bytes_at, name_at, item_at, each_item_at, items_at, content_at, note_at, claim_at}
 use Rattle.vault_journal.specs.Laws.{AreBytes}

@@ -1,7 +1,7 @@
 -- Reading items one after another, as a loop does.
 use Rattle.std.proofs.Common.{◌≡◌, ℕ, suc, ◌-◌, ◌+◌, ◌≤◌, ◌<◌, List, [], ◌∷◌, ◌++◌, Option, Some, None, refl, sym, ap, ◌∙◌, append_assoc, arith}
 use Rattle.std.proofs.lemmas.List.{append-nil}
-use Rattle.vault_model.specs.declared.claims.Item.{Item}
+use Rattle.vault_state.specs.declared.claims.Item.{Item}
 use Rattle.vault_journal.specs.Reading.{◌>>=◌, item_at, each_item_at}
 
 -- what was read before, and what is still read

@@ -1,7 +1,7 @@
 -- One spelling: what is spelled is read, whatever follows, and what is read was spelled so.
 use Rattle.std.specs.Prelude.{◌≡◌, ℕ, ◌<◌, ◌≤◌, ◌^◌, List, [], ◌∷◌, ◌++◌, Option, Some, length, slice_index}
-use Rattle.vault_model.specs.Name.{IsName}
-use Rattle.vault_model.specs.Note.{IsNote}
+use Rattle.vault_state.specs.Name.{IsName}
+use Rattle.vault_state.specs.Note.{IsNote}
 use Rattle.vault_model.specs.Said.{Effect}
 use Rattle.vault_journal.specs.Spelling.{in_two, in_four, in_eight, name_bytes, item_bytes, items_bytes, content_bytes, note_bytes, record_of, longest_content, longest_record, ItemFits, AreItems, HasRecord}
 use Rattle.vault_journal.specs.Reading.{u8_at, u16_at, u32_at, u64_at, name_at, item_at, items_at, content_at, note_at, effect_at}

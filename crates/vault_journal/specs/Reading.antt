@@ -1,13 +1,13 @@
 -- Single fields at the front of bytes. `specs/Laws.antt` ties each to its spelling.
 use Rattle.std.specs.Prelude.{◌≡◌, ℕ, zero, suc, List, [], ◌∷◌, length, take, drop, Option, Some, None, Result, Ok, Err, nat_lt, nat_le, ◌==◌, ◌&&◌, if◌then◌else◌}
 use Rattle.std.specs.Int.{w16, w32, w64, from_be_bytes}
-use Rattle.vault_model.specs.Name.{is_name}
-use Rattle.vault_model.specs.Note.{is_note}
-use Rattle.vault_model.specs.Limits.{most_items}
+use Rattle.vault_state.specs.Name.{is_name}
+use Rattle.vault_state.specs.Note.{is_note}
+use Rattle.vault_state.specs.Limits.{most_items}
 use Rattle.vault_model.specs.Said.{Effect}
 use Rattle.vault_model.specs.declared.effects.Effect.TheVariants.{Made, Nested, Asked, Extended, Saved, CheckedIn, Abandoned, Given, Noted}
-use Rattle.vault_model.specs.declared.ids.Intent.TheVariants.{Look, Change}
-use Rattle.vault_model.specs.declared.claims.Item.{Item}
+use Rattle.vault_state.specs.declared.ids.Intent.TheVariants.{Look, Change}
+use Rattle.vault_state.specs.declared.claims.Item.{Item}
 use Rattle.vault_journal.specs.declared.records.ReadError.{ReadError}
 use Rattle.vault_journal.specs.declared.records.ReadError.TheVariants.{Memory, NotOne}
 use Rattle.vault_journal.specs.Spelling.{longest_content}

@@ -2,15 +2,15 @@
 use Rattle.std.specs.Prelude.{ℕ, ◌<◌, ◌≤◌, ◌^◌, List, ◌∷◌, ◌++◌, length}
 use Rattle.std.specs.List.{flat_map, AllByRecursion}
 use Rattle.std.specs.Int.{w16, w32, w64, to_be_bytes}
-use Rattle.vault_model.specs.Name.{IsName}
-use Rattle.vault_model.specs.Note.{IsNote}
-use Rattle.vault_model.specs.Limits.{most_items}
-pub use Rattle.vault_model.specs.Limits.{longest_content}
+use Rattle.vault_state.specs.Name.{IsName}
+use Rattle.vault_state.specs.Note.{IsNote}
+use Rattle.vault_state.specs.Limits.{most_items}
+pub use Rattle.vault_state.specs.Limits.{longest_content}
 use Rattle.vault_model.specs.Said.{Effect}
 use Rattle.vault_model.specs.declared.effects.Effect.TheVariants.{Made, Nested, Asked, Extended, Saved, CheckedIn, Abandoned, Given, Noted}
-use Rattle.vault_model.specs.declared.ids.Intent.{Intent}
-use Rattle.vault_model.specs.declared.ids.Intent.TheVariants.{Look, Change}
-use Rattle.vault_model.specs.declared.claims.Item.{Item}
+use Rattle.vault_state.specs.declared.ids.Intent.{Intent}
+use Rattle.vault_state.specs.declared.ids.Intent.TheVariants.{Look, Change}
+use Rattle.vault_state.specs.declared.claims.Item.{Item}
 use Rattle.vault_journal.specs.declared.records.TheConstants.{LONGEST_RECORD}
 
 -- a number in two bytes, the higher first

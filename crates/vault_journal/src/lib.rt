@@ -5,7 +5,7 @@
 //! first fault is reported (`push_effect`, `read_effects`, `laws`). A commit has four steps. A crash before the third leaves
 //! the mark closed. From then until the fourth has succeeded, the mark is the only byte in doubt (`write_body`, `settle_body`,
 //! `open_gate`, `settle_gate`).
-//! Stands on: vault_model, vault_device. Must not know: a file's head, a snapshot, or whether an effect is applicable.
+//! Stands on: vault_state, vault_model, vault_device. Must not know: a file's head, a snapshot, or whether an effect is applicable.
 //!
 //! Invariants, of `Frame`:
 //! 1. The buffer always has its full size, 262,144 bytes.

@@ -1,7 +1,7 @@
 //! Readers of single fields at the front of a slice. They take no memory. Each returns the field and what stands
 //! behind it, or `None` where no such field stands at the front.
 ghost use Rattle.std.specs.Prelude.{◌≡◌, ◌≤◌};
-ghost use Rattle.vault_model.specs.Limits.{most_items};
+ghost use Rattle.vault_state.specs.Limits.{most_items};
 ghost use Rattle.vault_journal.specs.Reading.{Reads, u8_at, u16_at, u32_at, u64_at, bytes_at, name_at, item_at, each_item_at, items_at, content_at, note_at};
 
 use vault_model::{Intent, Item, Items, LONGEST_CONTENT, MAX_ITEMS, Name, Note, PlaceId};

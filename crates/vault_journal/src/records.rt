@@ -1,7 +1,7 @@
 //! The record of each effect, written and read.
 ghost use Rattle.std.specs.Prelude.{◌≡◌, ◌≤◌, ◌<◌, ◌+◌, ◌*◌, ◌∷◌, ◌++◌, IfOk, IfErr, IfSome, IfNone, length};
 ghost use Rattle.std.specs.Option.{option_map};
-ghost use Rattle.vault_model.specs.Limits.{most_items};
+ghost use Rattle.vault_state.specs.Limits.{most_items};
 ghost use Rattle.vault_model.specs.declared.effects.Effect.TheVariants.{Asked, Extended, Saved, Given, Noted};
 ghost use Rattle.vault_journal.specs.Spelling.{record_of, in_four, name_bytes, longest_content, longest_record, HasRecord};
 ghost use Rattle.vault_journal.specs.Written.{IsWritten};

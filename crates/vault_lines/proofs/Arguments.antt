@@ -4,8 +4,8 @@ use Rattle.std.proofs.Common.{length, map, take, drop, get_or, Option, Some, Non
 use Rattle.std.proofs.lemmas.List.{take_all}
 use Rattle.std.specs.Prelude.{Result, Ok, Err, IsErr}
 use Rattle.std.specs.Result.{IsErrAnd}
-use Rattle.vault_model.specs.Name.{name_in}
-use Rattle.vault_model.specs.Path.{path_in}
+use Rattle.vault_state.specs.Name.{name_in}
+use Rattle.vault_state.specs.Path.{path_in}
 use Rattle.vault_model.specs.declared.commands.Command.TheVariants as commands
 use Rattle.vault_lines.specs.declared.error.LineError.{LineError}
 use Rattle.vault_lines.specs.declared.error.LineError.TheVariants.{BadLine, NoMemory}

@@ -11,8 +11,8 @@ use Rattle.hex.specs.Hex.{decode_of, decode_pairs, encode_lower, lower_digits, d
 use Rattle.hex.specs.declared.error.FromHexError.{FromHexError}
 use Rattle.hex.proofs.Pairs.{cons_byte, decode_pairs-ok_pair}
 use Rattle.hex.proofs.HexLemmas.{decode_of-encode_lower, decode_of-even, decode_of-ok, decode_pairs-ok, length-encode_with}
-use Rattle.vault_model.proofs.Joined.{IsFree}
-use Rattle.vault_model.proofs.Lists.{chosen}
+use Rattle.vault_state.proofs.Joined.{IsFree}
+use Rattle.vault_state.proofs.Lists.{chosen}
 use Rattle.vault_lines.specs.Words.{content_in}
 use Rattle.vault_lines.specs.Spelling.{DigitsSpell, DigitsSpellAll, ContentSpells, ToldAsSpelled}
 use Rattle.vault_lines.proofs.Steps.{along}

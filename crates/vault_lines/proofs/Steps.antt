@@ -3,7 +3,7 @@ use Rattle.std.proofs.Common.{◌≡◌, Bool, true, List, [], ◌∷◌, Option
 use Rattle.std.specs.Prelude.{find}
 use Rattle.std.specs.Option.{option_map}
 use Rattle.vault_lines.specs.Reading.{◌>>=◌}
-use Rattle.vault_model.proofs.Lists.{chosen}
+use Rattle.vault_state.proofs.Lists.{chosen}
 
 pub along : {A : Type 0} (P : A → Type 0) {x y : A} → x ≡ y → P x → P y
 along P e p = subst P e p

@@ -10,15 +10,15 @@ use Rattle.std.proofs.lemmas.Bool.{and_parts, le-leb, ne_eqb, cond-true, cond-fa
 use Rattle.std.proofs.lemmas.Fmt.{decimal_is_IsNumeral}
 use Rattle.std.proofs.lemmas.List.Elements.{All-nil, All-cons, All-append}
 use Rattle.vault_model.specs.Said.{Command}
-use Rattle.vault_model.specs.Name.{is_name, is_name_byte, name_in, IsName}
-use Rattle.vault_model.specs.Path.{path_in, IsPath, path_text}
-use Rattle.vault_model.specs.declared.ids.Intent.{Intent}
-use Rattle.vault_model.specs.declared.ids.Intent.TheVariants.{Look, Change}
-use Rattle.vault_model.specs.declared.ids.ClaimId.{ClaimId}
-use Rattle.vault_model.specs.declared.ids.ClaimId.TheVariants.{Long, Short}
-use Rattle.vault_model.specs.declared.claims.PathItem.{PathItem}
+use Rattle.vault_state.specs.Name.{is_name, is_name_byte, name_in, IsName}
+use Rattle.vault_state.specs.Path.{path_in, IsPath, path_text}
+use Rattle.vault_state.specs.declared.ids.Intent.{Intent}
+use Rattle.vault_state.specs.declared.ids.Intent.TheVariants.{Look, Change}
+use Rattle.vault_state.specs.declared.ids.ClaimId.{ClaimId}
+use Rattle.vault_state.specs.declared.ids.ClaimId.TheVariants.{Long, Short}
+use Rattle.vault_state.specs.declared.claims.PathItem.{PathItem}
 use Rattle.vault_model.specs.declared.commands.Command.TheVariants as commands
-use Rattle.vault_model.proofs.Joined.{IsFree, split_joined}
+use Rattle.vault_state.proofs.Joined.{IsFree, split_joined}
 use Rattle.vault_model.proofs.PathTexts.{path_is_its_text}
 use Rattle.vault_lines.specs.Reading.{◌>>=◌, each_in}
 use Rattle.vault_lines.specs.Words.{number_in, positive_in, claim_in, content_in}

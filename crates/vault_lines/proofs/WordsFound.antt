@@ -10,17 +10,17 @@ use Rattle.std.proofs.lemmas.Bool.{and_parts, leb-true, ltb-true, eqb-true, eqb-
 use Rattle.std.proofs.lemmas.Slice.Eq.{bytes_eq-Decides}
 use Rattle.std.proofs.lemmas.List.Splits.{join_with_byte-slice_split}
 use Rattle.vault_model.specs.Said.{Command}
-use Rattle.vault_model.specs.Name.{is_name, name_in, IsName}
-use Rattle.vault_model.specs.Path.{path_in, IsPath, path_text}
-use Rattle.vault_model.specs.declared.ids.Intent.{Intent}
-use Rattle.vault_model.specs.declared.ids.Intent.TheVariants.{Look, Change}
-use Rattle.vault_model.specs.declared.ids.ClaimId.{ClaimId}
-use Rattle.vault_model.specs.declared.ids.ClaimId.TheVariants.{Long, Short}
-use Rattle.vault_model.specs.declared.claims.PathItem.{PathItem}
+use Rattle.vault_state.specs.Name.{is_name, name_in, IsName}
+use Rattle.vault_state.specs.Path.{path_in, IsPath, path_text}
+use Rattle.vault_state.specs.declared.ids.Intent.{Intent}
+use Rattle.vault_state.specs.declared.ids.Intent.TheVariants.{Look, Change}
+use Rattle.vault_state.specs.declared.ids.ClaimId.{ClaimId}
+use Rattle.vault_state.specs.declared.ids.ClaimId.TheVariants.{Long, Short}
+use Rattle.vault_state.specs.declared.claims.PathItem.{PathItem}
 use Rattle.vault_model.specs.declared.commands.Command.TheVariants as commands
 use Rattle.vault_model.proofs.PathTexts.{path_is_its_text}
-use Rattle.vault_model.proofs.Lists.{and_then_some}
-use Rattle.vault_model.proofs.Lists.{chosen}
+use Rattle.vault_state.proofs.Lists.{and_then_some}
+use Rattle.vault_state.proofs.Lists.{chosen}
 use Rattle.vault_lines.specs.Reading.{◌>>=◌, each_in}
 use Rattle.vault_lines.specs.Words.{number_in, positive_in, long_in, short_in, claim_in, content_in}
 use Rattle.vault_lines.specs.Items.{intent_in, item_in, items_in}

@@ -3,8 +3,8 @@
 use Rattle.std.specs.Prelude.{ℕ, ◌==◌, nat_le, List, [], ◌∷◌, length, Option, Some, None, if◌then◌else◌}
 use Rattle.std.specs.List.{slice_split}
 use Rattle.vault_model.specs.Said.{Command}
-use Rattle.vault_model.specs.Name.{name_in}
-use Rattle.vault_model.specs.Path.{path_in}
+use Rattle.vault_state.specs.Name.{name_in}
+use Rattle.vault_state.specs.Path.{path_in}
 use Rattle.vault_model.specs.declared.commands.Command.TheVariants as commands
 use Rattle.vault_lines.specs.Limits.{longest_line}
 use Rattle.vault_lines.specs.Reading.{◌>>=◌}

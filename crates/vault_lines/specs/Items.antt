@@ -1,10 +1,10 @@
 -- What the words of a claim's items say. This project's own.
 use Rattle.std.specs.Prelude.{ℕ, ◌==◌, List, [], ◌∷◌, Option, Some, None, if◌then◌else◌}
 use Rattle.vault_lines.specs.Reading.{each_in, ◌>>=◌}
-use Rattle.vault_model.specs.Path.{path_in}
-use Rattle.vault_model.specs.declared.ids.Intent.{Intent}
-use Rattle.vault_model.specs.declared.ids.Intent.TheVariants.{Look, Change}
-use Rattle.vault_model.specs.declared.claims.PathItem.{PathItem}
+use Rattle.vault_state.specs.Path.{path_in}
+use Rattle.vault_state.specs.declared.ids.Intent.{Intent}
+use Rattle.vault_state.specs.declared.ids.Intent.TheVariants.{Look, Change}
+use Rattle.vault_state.specs.declared.claims.PathItem.{PathItem}
 
 -- `r` to look, `w` to change
 abbrev pub intent_in : ℕ → Option Intent

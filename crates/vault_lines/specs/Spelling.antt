@@ -4,11 +4,11 @@ use Rattle.std.specs.Prelude.{ℕ, ◌≡◌, ◌<◌, ◌≤◌, ◌^◌, ◌*�
 use Rattle.std.specs.List.{join_with_byte, AllByRecursion}
 use Rattle.hex.specs.Hex.{hex_digit_value, IsBytes}
 use Rattle.vault_model.specs.Said.{Command}
-use Rattle.vault_model.specs.Name.{IsName}
-use Rattle.vault_model.specs.Path.{IsPath, path_text}
-use Rattle.vault_model.specs.declared.ids.ClaimId.{ClaimId}
-use Rattle.vault_model.specs.declared.ids.ClaimId.TheVariants.{Long, Short}
-use Rattle.vault_model.specs.declared.claims.PathItem.{PathItem}
+use Rattle.vault_state.specs.Name.{IsName}
+use Rattle.vault_state.specs.Path.{IsPath, path_text}
+use Rattle.vault_state.specs.declared.ids.ClaimId.{ClaimId}
+use Rattle.vault_state.specs.declared.ids.ClaimId.TheVariants.{Long, Short}
+use Rattle.vault_state.specs.declared.claims.PathItem.{PathItem}
 use Rattle.vault_model.specs.declared.commands.Command.TheVariants as commands
 use Rattle.vault_lines.specs.Limits.{longest_line}
 use Rattle.vault_lines.specs.Texts.{claim_text, item_text, content_text}

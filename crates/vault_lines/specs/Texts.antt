@@ -3,16 +3,16 @@ use Rattle.std.specs.Prelude.{ℕ, List, [], ◌∷◌, ◌++◌, codes, decimal
 use Rattle.std.specs.List.{flat_map}
 use Rattle.hex.specs.Hex.{encode_lower}
 use Rattle.vault_model.specs.Said.{Reply}
-use Rattle.vault_model.specs.declared.ids.ClaimId.{ClaimId}
-use Rattle.vault_model.specs.declared.ids.ClaimId.TheVariants.{Long, Short}
+use Rattle.vault_state.specs.declared.ids.ClaimId.{ClaimId}
+use Rattle.vault_state.specs.declared.ids.ClaimId.TheVariants.{Long, Short}
 use Rattle.vault_model.specs.declared.replies.Reply.TheVariants.{Session, Place, Held, Queued, Saved, CheckedIn, Abandoned, Released, Children, Content, Versions, Given, Noted, NoteIs, Shown, ClaimsAt, DraftsOf, Left, Refused}
 use Rattle.vault_model.specs.declared.replies.ShownClaim.{ShownClaim}
-use Rattle.vault_model.specs.declared.claims.PathItem.{PathItem}
-use Rattle.vault_model.specs.declared.claims.Standing.{Standing}
-use Rattle.vault_model.specs.declared.claims.Standing.TheVariants as standings
-use Rattle.vault_model.specs.declared.ids.Intent.{Intent}
-use Rattle.vault_model.specs.declared.ids.Intent.TheVariants.{Look, Change}
-use Rattle.vault_model.specs.Path.{path_text}
+use Rattle.vault_state.specs.declared.claims.PathItem.{PathItem}
+use Rattle.vault_state.specs.declared.claims.Standing.{Standing}
+use Rattle.vault_state.specs.declared.claims.Standing.TheVariants as standings
+use Rattle.vault_state.specs.declared.ids.Intent.{Intent}
+use Rattle.vault_state.specs.declared.ids.Intent.TheVariants.{Look, Change}
+use Rattle.vault_state.specs.Path.{path_text}
 use Rattle.vault_model.specs.declared.replies.Refusal.{Refusal}
 use Rattle.vault_model.specs.declared.replies.Refusal.TheVariants as refusals
 use Rattle.vault_model.specs.declared.replies.Outside.{Outside}

@@ -2,7 +2,7 @@
 //!
 //! Promises: a line is read exactly as the command that it spells, a number exactly from its decimal text, and each reply has its
 //! text (`read_line_of`, `read_number`, `text_of`, `outside_text`, `laws`).
-//! Stands on: vault_model. Must not know: scripts, sockets, files, threads, a vault that runs.
+//! Stands on: vault_state, vault_model. Must not know: scripts, sockets, files, threads, a vault that runs.
 //!
 //! Neither proved nor tested: that `NoMemory` comes from an allocation that was refused.
 //! Start at: docs/PROTOCOL.md, specs/Grammar.antt and reading.rt.

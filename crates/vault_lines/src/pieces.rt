@@ -2,7 +2,7 @@
 
 ghost use Rattle.std.specs.Prelude.{◌≡◌, ◌++◌, ◌∷◌, OnOk};
 ghost use Rattle.std.specs.List.{flat_map};
-ghost use Rattle.vault_model.specs.Path.{path_text};
+ghost use Rattle.vault_state.specs.Path.{path_text};
 ghost use Rattle.vault_lines.specs.Texts.{claim_text, item_text};
 
 use itoa::Buffer;

@@ -4,7 +4,7 @@ ghost use Rattle.std.specs.Prelude.{◌≡◌, ◌==◌, IfOk, map};
 ghost use Rattle.std.specs.List.{slice_split};
 
 use std::alloc::{AllocError, Allocator};
-use vault_model::split::cut;
+use vault_state::split::cut;
 
 /// The words of the line, which single spaces separate.
 pub(crate) fn words_of<A: Allocator>(alloc: A, line: &[u8]) -> Result<Vec<&[u8], A>, AllocError>

@@ -7,24 +7,24 @@ use Rattle.std.proofs.lemmas.Bool.Decides.{nat_tests}
 use Rattle.std.proofs.lemmas.List.Elements.{All-head, All-tail}
 use Rattle.std.proofs.lemmas.List.Sums.{sum_by-cons}
 use Rattle.std.proofs.lemmas.List.Folds.{list_all_at}
-use Rattle.vault_model.specs.declared.place.Place.{Place}
-use Rattle.vault_model.specs.declared.claims.Claim.{Claim}
-use Rattle.vault_model.specs.declared.session.Session.{Session}
-use Rattle.vault_model.specs.declared.ids.ClaimId.TheVariants.{Long}
+use Rattle.vault_state.specs.declared.place.Place.{Place}
+use Rattle.vault_state.specs.declared.claims.Claim.{Claim}
+use Rattle.vault_state.specs.declared.session.Session.{Session}
+use Rattle.vault_state.specs.declared.ids.ClaimId.TheVariants.{Long}
 use Rattle.vault_model.specs.declared.commands.Command.TheVariants as commands
 use Rattle.vault_model.specs.declared.replies.Refusal.{Refusal}
 use Rattle.vault_model.specs.declared.replies.Refusal.TheVariants.{NoSession, Limit}
 use Rattle.vault_model.specs.declared.replies.Reply.TheVariants as replies
 use Rattle.vault_model.specs.declared.effects.Effect.TheVariants as effects
-use Rattle.vault_model.specs.Limits.{longest_content, most_versions, most_weight}
-use Rattle.vault_model.specs.Shelf.{Draft, versions_of, weight, drafts_weight, is_shelvable}
-use Rattle.vault_model.specs.Drafts.{SavedDraft, comes_before, drafts_of, IsOrdered}
-use Rattle.vault_model.specs.Vault.{Vault, IsDraft, IsVault, session_of, weight_of}
+use Rattle.vault_state.specs.Limits.{longest_content, most_versions, most_weight}
+use Rattle.vault_state.specs.Shelf.{Draft, versions_of, weight, drafts_weight, is_shelvable}
+use Rattle.vault_state.specs.Drafts.{SavedDraft, comes_before, drafts_of, IsOrdered}
+use Rattle.vault_state.specs.Vault.{Vault, IsDraft, IsVault, session_of, weight_of}
 use Rattle.vault_model.specs.Changes.{with_versions}
 use Rattle.vault_model.specs.Step.{Outcome, ◌>>=◌, chained, refuse_if, usable, check_in, at_door, in_session, decide, outcome_of, step}
 use Rattle.vault_model.specs.Laws.{CheckInKeepsTheWeight, CheckInIsRefusedForFullParts}
-use Rattle.vault_model.proofs.Overlaps.{eq_from}
-use Rattle.vault_model.proofs.Shelves.{are_short, have_room, few_at, le_true, shelvable-is, weight-shelved_all}
+use Rattle.vault_state.proofs.Overlaps.{eq_from}
+use Rattle.vault_state.proofs.Shelves.{are_short, have_room, few_at, le_true, shelvable-is, weight-shelved_all}
 use Rattle.vault_model.proofs.Kept.{split_weight}
 use Rattle.vault_model.proofs.Transitions.{by_count}
 

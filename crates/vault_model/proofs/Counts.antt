@@ -3,8 +3,8 @@ use Rattle.std.specs.Prelude.{ℕ, ◌+◌, ◌<◌, Option}
 use Rattle.std.proofs.Common.{arith}
 use Rattle.std.proofs.lemmas.List.Elements.{All-push, All-weaker}
 use Rattle.vault_model.specs.Said.{Effect}
-use Rattle.vault_model.specs.declared.session.Session.{Session}
-use Rattle.vault_model.specs.Vault.{Vault, counted, CountsBelow}
+use Rattle.vault_state.specs.declared.session.Session.{Session}
+use Rattle.vault_state.specs.Vault.{Vault, counted, CountsBelow}
 use Rattle.vault_model.specs.Laws.{CountsRise}
 use Rattle.vault_model.proofs.Kept.{counts_rise, counts_left}
 use Rattle.vault_model.proofs.Transitions.{Transition, answered, joined, left, by_transition, by_count}

@@ -6,25 +6,25 @@ use Rattle.std.specs.Option.{option_map_or}
 use Rattle.std.proofs.lemmas.Bool.Decides.{nat_tests}
 use Rattle.std.proofs.lemmas.List.{length-map}
 use Rattle.std.proofs.lemmas.List.Elements.{All-nil, All-cons, All-head, All-tail, All-filter, All-append, filter-append}
-use Rattle.vault_model.specs.declared.place.Place.{Place}
-use Rattle.vault_model.specs.declared.claims.Item.{Item}
-use Rattle.vault_model.specs.declared.claims.Claim.{Claim}
-use Rattle.vault_model.specs.declared.claims.Standing.TheVariants.{Held}
-use Rattle.vault_model.specs.declared.ids.ClaimId.{ClaimId}
-use Rattle.vault_model.specs.declared.ids.ClaimId.TheVariants.{Long}
-use Rattle.vault_model.specs.Limits.{most_drafts}
-use Rattle.vault_model.specs.Tree.{is_under}
-use Rattle.vault_model.specs.Claims.{same_id, is_change, claim_of, change_set, standing_of, without, is_held, in_way_of, put_first}
-use Rattle.vault_model.specs.Drafts.{SavedDraft, comes_before, with_draft, drafts_of, IsOrdered}
-use Rattle.vault_model.specs.Vault.{AreThere, IsDraft, AreDrafts}
-use Rattle.vault_model.proofs.Overlaps.{eq_from, or_cases, or_left, or_right, and_both, and_intro}
-use Rattle.vault_model.proofs.Walks.{Rises}
-use Rattle.vault_model.proofs.Growth.{is_under-push, is_part-push}
+use Rattle.vault_state.specs.declared.place.Place.{Place}
+use Rattle.vault_state.specs.declared.claims.Item.{Item}
+use Rattle.vault_state.specs.declared.claims.Claim.{Claim}
+use Rattle.vault_state.specs.declared.claims.Standing.TheVariants.{Held}
+use Rattle.vault_state.specs.declared.ids.ClaimId.{ClaimId}
+use Rattle.vault_state.specs.declared.ids.ClaimId.TheVariants.{Long}
+use Rattle.vault_state.specs.Limits.{most_drafts}
+use Rattle.vault_state.specs.Tree.{is_under}
+use Rattle.vault_state.specs.Claims.{same_id, is_change, claim_of, change_set, standing_of, without, is_held, in_way_of, put_first}
+use Rattle.vault_state.specs.Drafts.{SavedDraft, comes_before, with_draft, drafts_of, IsOrdered}
+use Rattle.vault_state.specs.Vault.{AreThere, IsDraft, AreDrafts}
+use Rattle.vault_state.proofs.Overlaps.{eq_from, or_cases, or_left, or_right, and_both, and_intro}
+use Rattle.vault_state.proofs.Walks.{Rises}
+use Rattle.vault_state.proofs.Growth.{is_under-push, is_part-push}
 use Rattle.vault_model.proofs.Fronts.{held_front, held_claim, stands_held}
 use Rattle.vault_model.specs.After.{drafts_held}
-use Rattle.vault_model.proofs.Grown.{standing_of-grown}
-use Rattle.vault_model.proofs.Stays.{ids, own_id, same_id_is, claim_of-push, standing_of-push, claim_of-kept, held_kept, held_there}
-use Rattle.vault_model.proofs.Lists.{filter_passes}
+use Rattle.vault_state.proofs.Grown.{standing_of-grown}
+use Rattle.vault_state.proofs.Stays.{ids, own_id, same_id_is, claim_of-push, standing_of-push, claim_of-kept, held_kept, held_there}
+use Rattle.vault_state.proofs.Lists.{filter_passes}
 
 -- what a change of the queue keeps for the claims with drafts
 pub record Keeps (tree : List Place) (line others : List Claim) (number : ℕ) : Type 0 where

@@ -6,37 +6,38 @@ use Rattle.std.proofs.lemmas.Bool.Decides.{nat_tests}
 use Rattle.std.proofs.lemmas.List.{append-nil}
 use Rattle.std.proofs.lemmas.List.Elements.{filter-append, All-weaker, All-head, All-tail, All-cons, All-nil, All-append}
 use Rattle.std.proofs.lemmas.List.Sums.{length-filter, count_by-le-length}
-use Rattle.vault_model.specs.Limits.{most_items, most_claims, last_number}
-use Rattle.vault_model.specs.Note.{is_note}
-use Rattle.vault_model.specs.declared.place.Kind.TheVariants.{Assembly}
-use Rattle.vault_model.specs.Tree.{child, is_part, is_full, kind_under, may_nest_under}
+use Rattle.vault_state.specs.Limits.{most_items, most_claims, last_number}
+use Rattle.vault_state.specs.Note.{is_note}
+use Rattle.vault_state.specs.declared.place.Kind.TheVariants.{Assembly}
+use Rattle.vault_state.specs.Tree.{child, is_part, is_full, kind_under, may_nest_under}
 use Rattle.vault_model.specs.Said.{Effect}
 use Rattle.vault_model.specs.declared.effects.Effect.TheVariants as effects
-use Rattle.vault_model.specs.declared.place.Place.{Place}
-use Rattle.vault_model.specs.declared.claims.Item.{Item}
-use Rattle.vault_model.specs.declared.claims.Claim.{Claim}
-use Rattle.vault_model.specs.declared.claims.Owner.{Owner}
-use Rattle.vault_model.specs.declared.claims.Owner.TheVariants as owners
-use Rattle.vault_model.specs.declared.ids.ClaimId.{ClaimId}
-use Rattle.vault_model.specs.declared.ids.ClaimId.TheVariants.{Long, Short}
-use Rattle.vault_model.specs.Claims.{changed, given_to, noted_as, new_check_out, new_hold, same_id, change_set, claim_of, without, without_short, is_short, is_session, is_held, put_first}
-use Rattle.vault_model.specs.Vault.{Vault, AreThere, Owns, IsClaim, IsVault, durable, counted}
+use Rattle.vault_state.specs.declared.place.Place.{Place}
+use Rattle.vault_state.specs.declared.claims.Item.{Item}
+use Rattle.vault_state.specs.declared.claims.Claim.{Claim}
+use Rattle.vault_state.specs.declared.claims.Owner.{Owner}
+use Rattle.vault_state.specs.declared.claims.Owner.TheVariants as owners
+use Rattle.vault_state.specs.declared.ids.ClaimId.{ClaimId}
+use Rattle.vault_state.specs.declared.ids.ClaimId.TheVariants.{Long, Short}
+use Rattle.vault_state.specs.Claims.{changed, given_to, noted_as, new_check_out, new_hold, same_id, change_set, claim_of, without, without_short, is_short, is_session, is_held, put_first}
+use Rattle.vault_state.specs.Vault.{Vault, AreThere, Owns, IsClaim, IsVault, durable, counted}
 use Rattle.vault_model.specs.Step.{extension, may_save}
-use Rattle.vault_model.specs.Shelf.{is_shelvable}
-use Rattle.vault_model.proofs.Shelves.{true_le}
-use Rattle.vault_model.specs.Drafts.{new_draft, drafts_of, without_drafts}
+use Rattle.vault_state.specs.Shelf.{is_shelvable}
+use Rattle.vault_state.proofs.Shelves.{true_le}
+use Rattle.vault_state.specs.Drafts.{new_draft, drafts_of, without_drafts}
 use Rattle.vault_model.specs.After.{only_if, are_there, may_make, may_ask, may_extend, after_made, after_nested, after_asked, drafts_held, after_extended, after_saved, after_checked_in, after_abandoned, after_given, after_noted, after, IsDurable, IsDurableChange}
 use Rattle.vault_model.specs.Laws.{EffectIsTheDurableChange, DurableStays}
-use Rattle.vault_model.proofs.Overlaps.{and_both, and_intro, eq_from, eq_itself}
-use Rattle.vault_model.proofs.Stays.{own_id, claim_of-kept, held_kept, kept_there, claim_there}
+use Rattle.vault_state.proofs.Overlaps.{and_both, and_intro, eq_from, eq_itself}
+use Rattle.vault_state.proofs.Stays.{own_id, claim_of-kept, held_kept, kept_there, claim_there}
 use Rattle.vault_model.proofs.Fronts.{held_claim, stands_held}
 use Rattle.vault_model.proofs.Kept.{kept_first, kept_without, kept_checked_in, kept_durable}
 use Rattle.vault_model.proofs.Transitions.{CanMake, CanExtend, Transition, answered, joined, left, made, nested, asked, taken, extended, saved, checked_in, abandoned, given, noted, released, by_transition, by_count}
-use Rattle.vault_model.proofs.InPlace.{one_id, filter-changed, kept_given, kept_noted}
+use Rattle.vault_state.proofs.InPlace.{one_id, filter-changed}
+use Rattle.vault_model.proofs.KeptInPlace.{kept_given, kept_noted}
 use Rattle.vault_model.specs.Changes.{gone, with_place, with_check_out, with_items, with_content, with_versions, without_check_out, with_owner, with_note}
 use Rattle.vault_model.proofs.DraftsKept.{all_held, drafts_put_first}
 use Rattle.vault_model.proofs.WellFormed.{transition_keeps, not_last}
-use Rattle.vault_model.proofs.Lists.{not_false, three, four, five}
+use Rattle.vault_state.proofs.Lists.{not_false, three, four, five}
 
 only_if_true : (b : Bool) (w : Vault) → b ≡ true → only_if b w ≡ Some w
 only_if_true true w e = refl

@@ -3,15 +3,15 @@ use Rattle.std.specs.Prelude.{◌≡◌, Bool, true, false, not, ◌&&◌, List,
 use Rattle.std.proofs.Common.{sym, subst, ap, ◌∙◌, cond}
 use Rattle.std.specs.List.{IsDistinct}
 use Rattle.std.specs.Option.{option_map, option_map_or, is_none}
-use Rattle.vault_model.specs.declared.place.Place.{Place}
-use Rattle.vault_model.specs.declared.claims.Item.{Item}
-use Rattle.vault_model.specs.declared.claims.Claim.{Claim}
-use Rattle.vault_model.specs.declared.claims.Standing.TheVariants.{Held}
-use Rattle.vault_model.specs.declared.ids.ClaimId.{ClaimId}
-use Rattle.vault_model.specs.Claims.{same_id, overlap, blocker, standing_by, standing_behind, claim_of, before, without, is_held, standing_of, in_way_of, put_first}
-use Rattle.vault_model.proofs.Overlaps.{and_intro}
+use Rattle.vault_state.specs.declared.place.Place.{Place}
+use Rattle.vault_state.specs.declared.claims.Item.{Item}
+use Rattle.vault_state.specs.declared.claims.Claim.{Claim}
+use Rattle.vault_state.specs.declared.claims.Standing.TheVariants.{Held}
+use Rattle.vault_state.specs.declared.ids.ClaimId.{ClaimId}
+use Rattle.vault_state.specs.Claims.{same_id, overlap, blocker, standing_by, standing_behind, claim_of, before, without, is_held, standing_of, in_way_of, put_first}
+use Rattle.vault_state.proofs.Overlaps.{and_intro}
 use Rattle.vault_model.proofs.Meetings.{symmetric}
-use Rattle.vault_model.proofs.Stays.{stood, take_while-cons, same_id_is, same_id_itself, same_id_turned, own_id, ids, held_none, claim_of-kept, held_kept, kept_there}
+use Rattle.vault_state.proofs.Stays.{stood, take_while-cons, same_id_is, same_id_itself, same_id_turned, own_id, ids, held_none, claim_of-kept, held_kept, kept_there}
 
 -- where none of some claims passes, a claim among them doesn't
 pub none_passes : (p q : Claim → Bool) (line : List Claim) (id : ClaimId) (c : Claim) → find p (filter q line) ≡ None → claim_of line id ≡ Some c → q c ≡ true → p c ≡ false

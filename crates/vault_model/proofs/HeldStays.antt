@@ -2,23 +2,23 @@
 use Rattle.std.specs.Prelude.{◌++◌, Option, ◌≡◌, Bool, true, false, not, List, [], ◌∷◌, All, Some, is_some, find, ◌⊎◌, refl}
 use Rattle.std.proofs.Common.{sym, subst, ◌∙◌, cond, inl, inr}
 use Rattle.std.proofs.lemmas.List.Elements.{All-weaker}
-use Rattle.vault_model.specs.declared.place.Place.{Place}
-use Rattle.vault_model.specs.declared.claims.Claim.{Claim}
-use Rattle.vault_model.specs.declared.claims.Standing.TheVariants.{Held}
-use Rattle.vault_model.specs.declared.ids.ClaimId.{ClaimId}
-use Rattle.vault_model.specs.declared.ids.ClaimId.TheVariants.{Long, Short}
-use Rattle.vault_model.specs.Claims.{given_to, noted_as, is_session, is_short, same_id, overlap, standing_behind, claim_of, before, standing_of}
-use Rattle.vault_model.specs.Vault.{Vault, AreThere, IsClaim, IsVault}
+use Rattle.vault_state.specs.declared.place.Place.{Place}
+use Rattle.vault_state.specs.declared.claims.Claim.{Claim}
+use Rattle.vault_state.specs.declared.claims.Standing.TheVariants.{Held}
+use Rattle.vault_state.specs.declared.ids.ClaimId.{ClaimId}
+use Rattle.vault_state.specs.declared.ids.ClaimId.TheVariants.{Long, Short}
+use Rattle.vault_state.specs.Claims.{given_to, noted_as, is_session, is_short, same_id, overlap, standing_behind, claim_of, before, standing_of}
+use Rattle.vault_state.specs.Vault.{Vault, AreThere, IsClaim, IsVault}
 use Rattle.vault_model.specs.Said.{Effect}
-use Rattle.vault_model.specs.declared.place.Kind.TheVariants.{Assembly}
-use Rattle.vault_model.specs.Tree.{new_place, kind_under}
+use Rattle.vault_state.specs.declared.place.Kind.TheVariants.{Assembly}
+use Rattle.vault_state.specs.Tree.{new_place, kind_under}
 use Rattle.vault_model.specs.Laws.{HeldStays, HeldIsDurable, HeldAreApart}
-use Rattle.vault_model.proofs.Grown.{standing_of-grown}
-use Rattle.vault_model.proofs.Stays.{held_there, stood, take_while-cons, standing_of-push, find-filter, held_none, held_kept, kept_there, same_id_is}
+use Rattle.vault_state.proofs.Grown.{standing_of-grown}
+use Rattle.vault_state.proofs.Stays.{held_there, stood, take_while-cons, standing_of-push, find-filter, held_none, held_kept, kept_there, same_id_is}
 use Rattle.vault_model.proofs.Fronts.{none_passes, held_front}
 use Rattle.vault_model.proofs.Meetings.{symmetric}
 use Rattle.vault_model.proofs.Transitions.{Transition, left, made, nested, asked, taken, extended, checked_in, abandoned, given, noted, released, by_transition, by_count}
-use Rattle.vault_model.proofs.InPlace.{standing_of-changed}
+use Rattle.vault_state.proofs.InPlace.{standing_of-changed}
 
 -- a claim is held, if it stands
 abbrev IsHeldIn : ClaimId → Vault → Type 0

@@ -1,39 +1,38 @@
 -- Each change keeps the invariant of a vault.
-use Rattle.std.specs.Prelude.{◌≡◌, ◌≢◌, ℕ, zero, suc, Option, None, Some, is_some, ◌+◌, ◌<◌, ◌≤◌, ◌==◌, Bool, true, false, not, nat_eq, List, [], ◌∷◌, ◌++◌, length, map, filter, All, refl}
+use Rattle.std.specs.Prelude.{◌≡◌, ◌≢◌, ℕ, suc, Option, None, Some, is_some, ◌+◌, ◌<◌, ◌≤◌, ◌==◌, Bool, true, false, not, nat_eq, List, [], ◌∷◌, ◌++◌, length, map, filter, All, refl}
 use Rattle.std.proofs.Common.{arith, ap, sym, subst, cond, length-append, ◌∙◌}
 use Rattle.std.proofs.lemmas.List.{length-map}
 use Rattle.std.proofs.lemmas.List.Elements.{All-nil, All-cons, All-head, All-tail, All-weaker, All-filter, All-push, All-map}
 use Rattle.std.proofs.lemmas.List.Sums.{length-filter, count_by-le-length}
 use Rattle.std.proofs.lemmas.Bool.Decides.{nat_tests}
-use Rattle.vault_model.specs.declared.place.Place.{Place}
-use Rattle.vault_model.specs.declared.ids.ClaimId.{ClaimId}
-use Rattle.vault_model.specs.declared.ids.ClaimId.TheVariants.{Long, Short}
-use Rattle.vault_model.specs.declared.claims.Item.{Item}
-use Rattle.vault_model.specs.declared.claims.Claim.{Claim}
-use Rattle.vault_model.specs.declared.claims.Owner.{Owner}
-use Rattle.vault_model.specs.declared.claims.Owner.TheVariants as owners
-use Rattle.vault_model.specs.declared.session.Session.{Session}
-use Rattle.vault_model.specs.declared.place.Kind.TheVariants.{Library}
-use Rattle.vault_model.specs.Tree.{IsTree, kind_of, is_part, parent_of, find_place}
-use Rattle.vault_model.proofs.Walks.{depth-top}
+use Rattle.vault_state.specs.declared.place.Place.{Place}
+use Rattle.vault_state.specs.declared.ids.ClaimId.{ClaimId}
+use Rattle.vault_state.specs.declared.ids.ClaimId.TheVariants.{Long, Short}
+use Rattle.vault_state.specs.declared.claims.Item.{Item}
+use Rattle.vault_state.specs.declared.claims.Claim.{Claim}
+use Rattle.vault_state.specs.declared.claims.Owner.{Owner}
+use Rattle.vault_state.specs.declared.claims.Owner.TheVariants as owners
+use Rattle.vault_state.specs.declared.session.Session.{Session}
+use Rattle.vault_state.specs.Tree.{IsTree, is_part, find_place}
+use Rattle.vault_state.proofs.NewTree.{tree_new}
 use Rattle.std.specs.List.{IsDistinct, AllByRecursion}
 use Rattle.vault_model.specs.Changes.{with_check_out, with_hold}
-use Rattle.vault_model.specs.Claims.{new_check_out, new_hold, same_id, claim_of, without, without_session, without_short, is_session, is_short, put_first}
-use Rattle.vault_model.specs.Limits.{most_items, most_claims, most_sessions, last_number}
-use Rattle.vault_model.specs.Vault.{Vault, weight_of, IsDraft, AreDrafts, AreThere, IsGiven, Owns, IsNoteOf, IsClaim, AreSessions, IsVault, new_vault, durable, session_of, one_more, counted_in, CountsBelow}
-use Rattle.vault_model.specs.declared.claims.PathItem.{PathItem}
+use Rattle.vault_state.specs.Claims.{new_check_out, new_hold, same_id, claim_of, without, without_session, without_short, is_session, is_short, put_first}
+use Rattle.vault_state.specs.Limits.{most_items, most_claims, most_sessions, last_number}
+use Rattle.vault_state.specs.Vault.{Vault, weight_of, IsDraft, AreDrafts, AreThere, IsGiven, Owns, IsNoteOf, IsClaim, AreSessions, IsVault, new_vault, durable, session_of, one_more, counted_in, CountsBelow}
+use Rattle.vault_state.specs.declared.claims.PathItem.{PathItem}
 use Rattle.vault_model.specs.Step.{placed}
 use Rattle.std.specs.Option.{option_map, option_and_then}
 use Rattle.std.proofs.lemmas.List.Sums.{sum_by-cons}
-use Rattle.vault_model.specs.Limits.{most_drafts, most_weight}
-use Rattle.vault_model.specs.Shelf.{Draft, content_weight, drafts_weight, versions_of, shelved_all, is_shelvable}
-use Rattle.vault_model.specs.Drafts.{SavedDraft, saved_weight, with_draft, drafts_of, without_drafts, IsOrdered}
-use Rattle.vault_model.proofs.Growth.{is_part-push, AreThere-push}
-use Rattle.vault_model.proofs.Shelves.{none_shelved, shelf_stays, weight-shelved_all, versions_of-shelved_all}
+use Rattle.vault_state.specs.Limits.{most_drafts, most_weight}
+use Rattle.vault_state.specs.Shelf.{Draft, content_weight, drafts_weight, versions_of, shelved_all, is_shelvable}
+use Rattle.vault_state.specs.Drafts.{SavedDraft, saved_weight, with_draft, drafts_of, without_drafts, IsOrdered}
+use Rattle.vault_state.proofs.Growth.{is_part-push, AreThere-push}
+use Rattle.vault_state.proofs.Shelves.{none_shelved, shelf_stays, weight-shelved_all, versions_of-shelved_all}
 use Rattle.vault_model.proofs.DraftsKept.{drafts_grown, drafts_left, drafts_asked, drafts_saved, fewer_drafts}
-use Rattle.vault_model.proofs.Distinct.{IsDistinct-push, IsDistinct-filter}
-use Rattle.vault_model.proofs.Overlaps.{eq_from}
-use Rattle.vault_model.proofs.Stays.{ids, own_id, same_id_turned, kept_there, claim_there, held_there}
+use Rattle.vault_state.proofs.Distinct.{IsDistinct-push, IsDistinct-filter}
+use Rattle.vault_state.proofs.Overlaps.{eq_from}
+use Rattle.vault_state.proofs.Stays.{ids, own_id, same_id_turned, kept_there, claim_there, held_there}
 
 -- what holds of members that pass a test
 pub All-kept : {X : Type 0} (P Q : X → Type 0) (keep : X → Bool) (xs : List X) → ((x : X) → P x → keep x ≡ true → Q x) → All P xs → All Q (filter keep xs)
@@ -504,28 +503,6 @@ length-placed tree (w ∷ wanted) items e = by_place (find_place tree w.path) e 
         let h2 = rw k at h in
         let same : record { intent = w.intent; place = place } ∷ others ≡ items = cc in
         rw (← same) (ap suc (ih others k))
-
-pub tree_new : IsTree []
-tree_new = record {
-  few = omega arith;
-  parents = λ p parent e. nowhere p parent e;
-  shallow = λ p. rw (depth-top [] p (no_parent p)) (omega arith);
-  no_parts_above = λ p parent e. let none = no_parent p in cc;
-  kinds = λ p. rw (no_kind p, depth-top [] p (no_parent p)) refl;
-  siblings = λ i j a b e. cc;
-  narrow = λ p. omega arith;
-}
-  where
-    no_parent : (p : ℕ) → parent_of [] p ≡ None
-    no_parent zero = refl
-    no_parent (suc p) = refl
-
-    no_kind : (p : ℕ) → kind_of [] p ≡ Library
-    no_kind zero = refl
-    no_kind (suc p) = refl
-
-    nowhere : (p parent : ℕ) → parent_of [] p ≡ Some parent → parent < p
-    nowhere p parent e = let none = no_parent p in cc
 
 pub kept_new : IsVault new_vault
 unfolding IsDistinct IsOrdered

@@ -1,13 +1,13 @@
 -- What overlap and "under" mean.
 use Rattle.std.specs.Prelude.{◌≡◌, ℕ, suc, ◌<◌, ◌≤◌, ◌↔◌, ◌⊎◌, ◌||◌, ◌==◌, Bool, true, false, List, length, Option, None, Some, refl}
 use Rattle.std.proofs.Common.{sym, ◌∙◌, arith, inl, inr}
-use Rattle.vault_model.specs.declared.place.Place.{Place}
-use Rattle.vault_model.specs.declared.claims.Item.{Item}
-use Rattle.vault_model.specs.Tree.{parent_of, is_under}
-use Rattle.vault_model.specs.Claims.{look_set, change_set, meet, overlap}
+use Rattle.vault_state.specs.declared.place.Place.{Place}
+use Rattle.vault_state.specs.declared.claims.Item.{Item}
+use Rattle.vault_state.specs.Tree.{parent_of, is_under}
+use Rattle.vault_state.specs.Claims.{look_set, change_set, meet, overlap}
 use Rattle.vault_model.specs.Laws.{UnderIsByParents, OverlapIsAMeeting, OverlapIsSymmetric}
-use Rattle.vault_model.proofs.Walks.{is_under-step, is_under-top, is_under-same}
-use Rattle.vault_model.proofs.Overlaps.{or_cases, or_left, or_right, eq_from, eq_itself, meet_from, meet_to}
+use Rattle.vault_state.proofs.Walks.{is_under-step, is_under-top, is_under-same}
+use Rattle.vault_state.proofs.Overlaps.{or_cases, or_left, or_right, eq_from, eq_itself, meet_from, meet_to}
 
 or_swapped : (a b : Bool) → (a || b) ≡ (b || a)
 or_swapped true true = refl

@@ -5,13 +5,13 @@ use Rattle.std.specs.List.{list_all, slice_split, flat_map, join_with_byte, AllB
 use Rattle.std.proofs.lemmas.Bool.Decides.{nat_tests}
 use Rattle.std.proofs.lemmas.List.Elements.{All-nil, All-cons}
 use Rattle.std.proofs.lemmas.List.Splits.{join_with_byte-slice_split, length-slice_split}
-use Rattle.vault_model.specs.Limits.{most_names}
-use Rattle.vault_model.specs.Name.{is_name_byte, is_name, IsName}
-use Rattle.vault_model.specs.Path.{IsPath, path_text, names_of, names_in, behind_slash, path_in}
+use Rattle.vault_state.specs.Limits.{most_names}
+use Rattle.vault_state.specs.Name.{is_name_byte, is_name, IsName}
+use Rattle.vault_state.specs.Path.{IsPath, path_text, names_of, names_in, behind_slash, path_in}
 use Rattle.vault_model.specs.Laws.{PathIsItsText}
-use Rattle.vault_model.proofs.Overlaps.{and_both, and_intro, eq_from}
-use Rattle.vault_model.proofs.Paths.{names_good}
-use Rattle.vault_model.proofs.Joined.{IsFree, split_joined}
+use Rattle.vault_state.proofs.Overlaps.{and_both, and_intro, eq_from}
+use Rattle.vault_state.proofs.Paths.{names_good}
+use Rattle.vault_state.proofs.Joined.{IsFree, split_joined}
 
 each_named : (names : List (List ℕ)) → list_all is_name names ≡ true → AllByRecursion IsName names
 each_named [] e = tt

@@ -1,8 +1,8 @@
 -- The conversations that were worked out by hand, computed.
 use Rattle.std.specs.Prelude.{refl}
-use Rattle.vault_model.specs.Claims.{overlap}
+use Rattle.vault_state.specs.Claims.{overlap}
 use Rattle.vault_model.specs.Step.{step, decide, chained, join, make, nest, admitted, permitted, usable, check_out, extend, abandon, hold, release, state, list, save, check_in, fetch, count, owned, give, note, read_note, show, claims, drafts, draft}
-use Rattle.vault_model.specs.Shelf.{is_shelvable}
+use Rattle.vault_state.specs.Shelf.{is_shelvable}
 use Rattle.vault_model.specs.Rows.{replies_of, Rows, TwoDesigners, Siblings, LookAndChange, LineMovesUp, CoveredParent, Refusals, ClaimRefusals, RefusedExtension, GrantedExtension, MadeUnderAClaim, HoldsAndLeaving, ExtensionRefusals, DraftsAndVersions, DraftRefusals, GivenAway, DraftsAndPlaceStay, NestedAssemblies, DeepestPaths, NestRefusals, WhoHoldsWhat}
 
 two_designers : TwoDesigners

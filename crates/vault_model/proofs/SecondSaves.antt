@@ -5,18 +5,18 @@ use Rattle.std.specs.Option.{ok_or}
 use Rattle.std.proofs.lemmas.Bool.Decides.{nat_tests}
 use Rattle.std.proofs.lemmas.List.{append-nil}
 use Rattle.std.proofs.lemmas.List.Elements.{filter-append}
-use Rattle.vault_model.specs.declared.claims.Claim.{Claim}
-use Rattle.vault_model.specs.declared.ids.ClaimId.TheVariants.{Long}
-use Rattle.vault_model.specs.declared.session.Session.{Session}
+use Rattle.vault_state.specs.declared.claims.Claim.{Claim}
+use Rattle.vault_state.specs.declared.ids.ClaimId.TheVariants.{Long}
+use Rattle.vault_state.specs.declared.session.Session.{Session}
 use Rattle.vault_model.specs.declared.replies.Refusal.{Refusal}
 use Rattle.vault_model.specs.declared.replies.Refusal.TheVariants.{NoPlace, WrongKind, NotCovered, Limit}
 use Rattle.vault_model.specs.declared.replies.Reply.TheVariants as replies
 use Rattle.vault_model.specs.declared.effects.Effect.TheVariants as effects
-use Rattle.vault_model.specs.Tree.{find_place, is_part}
-use Rattle.vault_model.specs.Claims.{change_set}
-use Rattle.vault_model.specs.Limits.{longest_content, most_drafts, most_weight}
-use Rattle.vault_model.specs.Drafts.{SavedDraft, new_draft, comes_before, with_draft, drafts_of}
-use Rattle.vault_model.specs.Vault.{Vault, weight_of}
+use Rattle.vault_state.specs.Tree.{find_place, is_part}
+use Rattle.vault_state.specs.Claims.{change_set}
+use Rattle.vault_state.specs.Limits.{longest_content, most_drafts, most_weight}
+use Rattle.vault_state.specs.Drafts.{SavedDraft, new_draft, comes_before, with_draft, drafts_of}
+use Rattle.vault_state.specs.Vault.{Vault, weight_of}
 use Rattle.vault_model.specs.Step.{Outcome, ◌>>=◌, chained, refuse_if, usable, save}
 use Rattle.vault_model.specs.Laws.{SecondSaveReplaces}
 use Rattle.vault_model.proofs.DraftsKept.{not_both}

@@ -4,30 +4,30 @@ use Rattle.std.proofs.Common.{cond, arith}
 use Rattle.std.specs.Option.{ok_or, IfSome, option_map, option_and_then}
 use Rattle.std.proofs.lemmas.Bool.Decides.{nat_tests}
 use Rattle.std.proofs.lemmas.List.Elements.{All-nil, All-cons}
-use Rattle.vault_model.specs.Limits.{most_items, most_claims, most_sessions, last_number}
-use Rattle.vault_model.specs.Note.{is_note}
-use Rattle.vault_model.specs.declared.place.Kind.TheVariants.{Assembly}
-use Rattle.vault_model.specs.Tree.{find_place, child, is_part, is_full, kind_under, may_nest_under}
+use Rattle.vault_state.specs.Limits.{most_items, most_claims, most_sessions, last_number}
+use Rattle.vault_state.specs.Note.{is_note}
+use Rattle.vault_state.specs.declared.place.Kind.TheVariants.{Assembly}
+use Rattle.vault_state.specs.Tree.{find_place, child, is_part, is_full, kind_under, may_nest_under}
 use Rattle.vault_model.specs.Said.{Command, Effect}
 use Rattle.vault_model.specs.declared.commands.Command.TheVariants as commands
 use Rattle.vault_model.specs.declared.effects.Effect.TheVariants as effects
-use Rattle.vault_model.specs.declared.place.Place.{Place}
-use Rattle.vault_model.specs.declared.claims.Item.{Item}
-use Rattle.vault_model.specs.declared.claims.Claim.{Claim}
-use Rattle.vault_model.specs.declared.claims.PathItem.{PathItem}
-use Rattle.vault_model.specs.declared.ids.ClaimId.{ClaimId}
-use Rattle.vault_model.specs.declared.ids.ClaimId.TheVariants.{Long}
-use Rattle.vault_model.specs.declared.session.Session.{Session}
+use Rattle.vault_state.specs.declared.place.Place.{Place}
+use Rattle.vault_state.specs.declared.claims.Item.{Item}
+use Rattle.vault_state.specs.declared.claims.Claim.{Claim}
+use Rattle.vault_state.specs.declared.claims.PathItem.{PathItem}
+use Rattle.vault_state.specs.declared.ids.ClaimId.{ClaimId}
+use Rattle.vault_state.specs.declared.ids.ClaimId.TheVariants.{Long}
+use Rattle.vault_state.specs.declared.session.Session.{Session}
 use Rattle.vault_model.specs.declared.replies.Refusal.{Refusal}
 use Rattle.vault_model.specs.declared.replies.Refusal.TheVariants.{NoSession, Exists, NoClaim, NotYours, NotHeld, Limit}
-use Rattle.vault_model.specs.Claims.{change_set, claim_of, is_held, in_way_of}
-use Rattle.vault_model.specs.Shelf.{is_shelvable}
-use Rattle.vault_model.specs.Drafts.{new_draft, drafts_of}
-use Rattle.vault_model.specs.Vault.{Vault, AreThere, session_of, counted, counted_in}
+use Rattle.vault_state.specs.Claims.{change_set, claim_of, is_held, in_way_of}
+use Rattle.vault_state.specs.Shelf.{is_shelvable}
+use Rattle.vault_state.specs.Drafts.{new_draft, drafts_of}
+use Rattle.vault_state.specs.Vault.{Vault, AreThere, session_of, counted, counted_in}
 use Rattle.vault_model.specs.Changes.{with_session, gone, with_place, with_check_out, with_hold, with_items, with_content, with_versions, without_check_out, with_owner, with_note, without_hold}
 use Rattle.vault_model.specs.Step.{Outcome, ◌>>=◌, chained, refuse_if, refuse_by, is_owned_by, placed, owned, usable, join, permitted, admitted, make, nest, check_out, extension, extend, abandon, hold, release, state, list, may_save, save, check_in, fetch, count, give, note, read_note, show, claims, drafts, draft, at_door, in_session, decide, outcome_of, step}
-use Rattle.vault_model.proofs.Overlaps.{neither}
-use Rattle.vault_model.proofs.Growth.{find_place_there}
+use Rattle.vault_state.proofs.Overlaps.{neither}
+use Rattle.vault_state.proofs.Growth.{find_place_there}
 use Rattle.vault_model.proofs.Kept.{length-placed, session_stands}
 
 affirmed : (b : Bool) → not b ≡ false → b ≡ true

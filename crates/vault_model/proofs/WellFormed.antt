@@ -3,28 +3,28 @@ use Rattle.std.specs.Prelude.{◌≡◌, ℕ, suc, ◌+◌, ◌<◌, ◌≤◌, 
 use Rattle.std.proofs.Common.{arith, length-append, sym, subst, ◌∙◌}
 use Rattle.std.proofs.lemmas.Bool.Decides.{nat_tests}
 use Rattle.std.proofs.lemmas.List.Elements.{All-append}
-use Rattle.vault_model.specs.Limits.{last_number, most_items, longest_content, most_drafts, most_weight}
-use Rattle.vault_model.specs.Tree.{depth, kind_of}
-use Rattle.vault_model.proofs.Depths.{stands_above, kind_at_stands, between_stands}
+use Rattle.vault_state.specs.Limits.{last_number, most_items, longest_content, most_drafts, most_weight}
+use Rattle.vault_state.specs.Tree.{depth, kind_of}
+use Rattle.vault_state.proofs.Depths.{stands_above, kind_at_stands, between_stands}
 use Rattle.vault_model.specs.Said.{Command, Effect}
-use Rattle.vault_model.specs.declared.claims.Item.{Item}
-use Rattle.vault_model.specs.declared.claims.Claim.{Claim}
-use Rattle.vault_model.specs.declared.ids.ClaimId.TheVariants.{Long}
-use Rattle.vault_model.specs.Vault.{Vault, weight_of, IsClaim, IsVault, counted}
+use Rattle.vault_state.specs.declared.claims.Item.{Item}
+use Rattle.vault_state.specs.declared.claims.Claim.{Claim}
+use Rattle.vault_state.specs.declared.ids.ClaimId.TheVariants.{Long}
+use Rattle.vault_state.specs.Vault.{Vault, weight_of, IsClaim, IsVault, counted}
 use Rattle.vault_model.specs.Step.{step}
-use Rattle.vault_model.proofs.Growth.{IsTree-push}
+use Rattle.vault_state.proofs.Growth.{IsTree-push}
 use Rattle.vault_model.proofs.Kept.{kept_made, kept_without, kept_released, kept_saved, kept_checked_in, kept_asked_long, kept_asked_short, kept_first, kept_gone, kept_joined, kept_counted}
 use Rattle.std.proofs.lemmas.Option.{same_Some}
-use Rattle.vault_model.specs.Claims.{change_set}
-use Rattle.vault_model.specs.Drafts.{new_draft, with_draft, drafts_of}
+use Rattle.vault_state.specs.Claims.{change_set}
+use Rattle.vault_state.specs.Drafts.{new_draft, with_draft, drafts_of}
 use Rattle.vault_model.specs.Changes.{with_content}
-use Rattle.vault_model.proofs.Shelves.{true_le}
+use Rattle.vault_state.proofs.Shelves.{true_le}
 use Rattle.vault_model.proofs.Fronts.{stands_held}
 use Rattle.vault_model.proofs.DraftsKept.{drafts_first}
-use Rattle.vault_model.proofs.Stays.{claim_there}
+use Rattle.vault_state.proofs.Stays.{claim_there}
 use Rattle.vault_model.proofs.Transitions.{Transition, answered, joined, left, made, nested, asked, taken, extended, saved, checked_in, abandoned, given, noted, released, by_transition, by_count}
-use Rattle.vault_model.proofs.InPlace.{kept_given, kept_noted}
-use Rattle.vault_model.proofs.Lists.{three}
+use Rattle.vault_model.proofs.KeptInPlace.{kept_given, kept_noted}
+use Rattle.vault_state.proofs.Lists.{three}
 
 pub absent : (o : Option ℕ) → is_some o ≡ false → o ≡ None
 absent None e = refl

@@ -4,19 +4,19 @@ use Rattle.std.specs.List.{list_all}
 use Rattle.std.specs.Option.{option_and_then, option_map_or}
 use Rattle.vault_model.specs.Said.{Effect}
 use Rattle.vault_model.specs.declared.effects.Effect.TheVariants as effects
-use Rattle.vault_model.specs.declared.place.Place.{Place}
-use Rattle.vault_model.specs.declared.claims.Item.{Item}
-use Rattle.vault_model.specs.declared.claims.Claim.{Claim}
-use Rattle.vault_model.specs.declared.ids.ClaimId.TheVariants.{Long}
-use Rattle.vault_model.specs.Limits.{most_items, most_claims, last_number}
-use Rattle.vault_model.specs.Note.{is_note}
-use Rattle.vault_model.specs.declared.place.Kind.TheVariants.{Assembly}
-use Rattle.vault_model.specs.Tree.{child, is_part, is_full, kind_under, may_nest_under}
-use Rattle.vault_model.specs.Claims.{claim_of, is_held, change_set, put_first}
-use Rattle.vault_model.specs.Shelf.{is_shelvable}
-use Rattle.vault_model.specs.Drafts.{SavedDraft, new_draft, drafts_of}
+use Rattle.vault_state.specs.declared.place.Place.{Place}
+use Rattle.vault_state.specs.declared.claims.Item.{Item}
+use Rattle.vault_state.specs.declared.claims.Claim.{Claim}
+use Rattle.vault_state.specs.declared.ids.ClaimId.TheVariants.{Long}
+use Rattle.vault_state.specs.Limits.{most_items, most_claims, last_number}
+use Rattle.vault_state.specs.Note.{is_note}
+use Rattle.vault_state.specs.declared.place.Kind.TheVariants.{Assembly}
+use Rattle.vault_state.specs.Tree.{child, is_part, is_full, kind_under, may_nest_under}
+use Rattle.vault_state.specs.Claims.{claim_of, is_held, change_set, put_first}
+use Rattle.vault_state.specs.Shelf.{is_shelvable}
+use Rattle.vault_state.specs.Drafts.{SavedDraft, new_draft, drafts_of}
 use Rattle.vault_model.specs.Step.{may_save}
-use Rattle.vault_model.specs.Vault.{Vault, durable}
+use Rattle.vault_state.specs.Vault.{Vault, durable}
 use Rattle.vault_model.specs.Changes.{with_place, with_check_out, with_items, with_content, with_versions, without_check_out, with_owner, with_note}
 
 -- a vault, where a test holds

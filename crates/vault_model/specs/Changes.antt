@@ -1,15 +1,15 @@
 -- The vault after each change that a command makes. Whether the command may make it is said in Step and After. This project's own.
 use Rattle.std.specs.Prelude.{ℕ, ◌+◌, ◌==◌, not, List, [], ◌∷◌, ◌++◌, filter}
-use Rattle.vault_model.specs.declared.claims.Item.{Item}
-use Rattle.vault_model.specs.declared.ids.ClaimId.{ClaimId}
-use Rattle.vault_model.specs.declared.ids.ClaimId.TheVariants.{Long, Short}
-use Rattle.vault_model.specs.declared.place.Kind.{Kind}
-use Rattle.vault_model.specs.declared.session.Session.{Session}
-use Rattle.vault_model.specs.Tree.{new_place}
-use Rattle.vault_model.specs.Claims.{new_check_out, new_hold, without, without_session, put_first, changed, given_to, noted_as}
-use Rattle.vault_model.specs.Shelf.{shelved_all}
-use Rattle.vault_model.specs.Drafts.{new_draft, with_draft, drafts_of, without_drafts}
-use Rattle.vault_model.specs.Vault.{Vault}
+use Rattle.vault_state.specs.declared.claims.Item.{Item}
+use Rattle.vault_state.specs.declared.ids.ClaimId.{ClaimId}
+use Rattle.vault_state.specs.declared.ids.ClaimId.TheVariants.{Long, Short}
+use Rattle.vault_state.specs.declared.place.Kind.{Kind}
+use Rattle.vault_state.specs.declared.session.Session.{Session}
+use Rattle.vault_state.specs.Tree.{new_place}
+use Rattle.vault_state.specs.Claims.{new_check_out, new_hold, without, without_session, put_first, changed, given_to, noted_as}
+use Rattle.vault_state.specs.Shelf.{shelved_all}
+use Rattle.vault_state.specs.Drafts.{new_draft, with_draft, drafts_of, without_drafts}
+use Rattle.vault_state.specs.Vault.{Vault}
 
 -- a session joined
 abbrev pub with_session : Vault → List ℕ → Vault

@@ -1,22 +1,22 @@
 -- Laws of the definitions: what they mean in the terms of the subject.
 use Rattle.std.specs.Prelude.{◌≡◌, ℕ, ◌+◌, ◌≤◌, ◌↔◌, ◌⊎◌, true, List, Some, is_some, length, false, Ok, Err}
 use Rattle.std.specs.List.{Contains}
-use Rattle.vault_model.specs.declared.place.Place.{Place}
-use Rattle.vault_model.specs.declared.claims.Item.{Item}
-use Rattle.vault_model.specs.declared.claims.Standing.TheVariants.{Held}
-use Rattle.vault_model.specs.declared.ids.ClaimId.{ClaimId}
-use Rattle.vault_model.specs.declared.ids.ClaimId.TheVariants.{Long}
-use Rattle.vault_model.specs.declared.claims.Claim.{Claim}
-use Rattle.vault_model.specs.Path.{IsPath, path_text, path_in}
-use Rattle.vault_model.specs.declared.session.Session.{Session}
+use Rattle.vault_state.specs.declared.place.Place.{Place}
+use Rattle.vault_state.specs.declared.claims.Item.{Item}
+use Rattle.vault_state.specs.declared.claims.Standing.TheVariants.{Held}
+use Rattle.vault_state.specs.declared.ids.ClaimId.{ClaimId}
+use Rattle.vault_state.specs.declared.ids.ClaimId.TheVariants.{Long}
+use Rattle.vault_state.specs.declared.claims.Claim.{Claim}
+use Rattle.vault_state.specs.Path.{IsPath, path_text, path_in}
+use Rattle.vault_state.specs.declared.session.Session.{Session}
 use Rattle.vault_model.specs.declared.commands.Command.TheVariants as commands
 use Rattle.vault_model.specs.declared.replies.Refusal.TheVariants.{Limit}
-use Rattle.vault_model.specs.Limits.{most_versions}
-use Rattle.vault_model.specs.Tree.{IsTree, parent_of, is_under, path_of, find_place}
-use Rattle.vault_model.specs.Shelf.{Draft, versions_of}
-use Rattle.vault_model.specs.Drafts.{drafts_of}
-use Rattle.vault_model.specs.Claims.{same_id, look_set, change_set, overlap, claim_of, standing_of}
-use Rattle.vault_model.specs.Vault.{Vault, IsVault, CountsBelow, new_vault, durable, weight_of}
+use Rattle.vault_state.specs.Limits.{most_versions}
+use Rattle.vault_state.specs.Tree.{IsTree, parent_of, is_under, path_of, find_place}
+use Rattle.vault_state.specs.Shelf.{Draft, versions_of}
+use Rattle.vault_state.specs.Drafts.{drafts_of}
+use Rattle.vault_state.specs.Claims.{same_id, look_set, change_set, overlap, claim_of, standing_of}
+use Rattle.vault_state.specs.Vault.{Vault, IsVault, CountsBelow, new_vault, durable, weight_of}
 use Rattle.vault_model.specs.Said.{Command, Effect}
 use Rattle.vault_model.specs.After.{after, IsDurable, IsDurableChange}
 use Rattle.vault_model.specs.Step.{Outcome, usable, save, check_in, step}

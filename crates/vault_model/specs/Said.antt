@@ -1,7 +1,7 @@
 -- Commands, replies and effects over plain lists: the definitions see nothing of how memory keeps them.
 use Rattle.std.specs.Prelude.{ℕ, List}
-use Rattle.vault_model.specs.declared.ids.ClaimId.{ClaimId}
-use Rattle.vault_model.specs.declared.claims.PathItem.{PathItem}
+use Rattle.vault_state.specs.declared.ids.ClaimId.{ClaimId}
+use Rattle.vault_state.specs.declared.claims.PathItem.{PathItem}
 use Rattle.vault_model.specs.declared.commands.Command.{Command as CommandOver}
 use Rattle.vault_model.specs.declared.replies.Reply.{Reply as ReplyOver}
 use Rattle.vault_model.specs.declared.effects.Effect.{Effect as EffectOver}

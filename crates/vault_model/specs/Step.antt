@@ -8,27 +8,27 @@ use Rattle.vault_model.specs.declared.effects.Effect.TheVariants as effects
 use Rattle.vault_model.specs.declared.replies.Reply.TheVariants as replies
 use Rattle.vault_model.specs.declared.replies.Refusal.{Refusal}
 use Rattle.vault_model.specs.declared.replies.Refusal.TheVariants.{NoSession, Joined, NoPlace, Exists, WrongKind, Covered, NoClaim, NotYours, NotHeld, Overlaps, NotCovered, ItemCount, NoVersion, Limit}
-use Rattle.vault_model.specs.declared.claims.Item.{Item}
-use Rattle.vault_model.specs.declared.claims.Claim.{Claim}
-use Rattle.vault_model.specs.declared.claims.PathItem.{PathItem}
-use Rattle.vault_model.specs.declared.claims.Owner.{Owner}
-use Rattle.vault_model.specs.declared.claims.Owner.TheVariants as owners
-use Rattle.vault_model.specs.declared.claims.Standing.{Standing}
-use Rattle.vault_model.specs.declared.claims.Standing.TheVariants as standings
-use Rattle.vault_model.specs.declared.ids.ClaimId.{ClaimId}
-use Rattle.vault_model.specs.declared.ids.ClaimId.TheVariants.{Long, Short}
-use Rattle.vault_model.specs.declared.place.Place.{Place}
-use Rattle.vault_model.specs.declared.session.Session.{Session}
+use Rattle.vault_state.specs.declared.claims.Item.{Item}
+use Rattle.vault_state.specs.declared.claims.Claim.{Claim}
+use Rattle.vault_state.specs.declared.claims.PathItem.{PathItem}
+use Rattle.vault_state.specs.declared.claims.Owner.{Owner}
+use Rattle.vault_state.specs.declared.claims.Owner.TheVariants as owners
+use Rattle.vault_state.specs.declared.claims.Standing.{Standing}
+use Rattle.vault_state.specs.declared.claims.Standing.TheVariants as standings
+use Rattle.vault_state.specs.declared.ids.ClaimId.{ClaimId}
+use Rattle.vault_state.specs.declared.ids.ClaimId.TheVariants.{Long, Short}
+use Rattle.vault_state.specs.declared.place.Place.{Place}
+use Rattle.vault_state.specs.declared.session.Session.{Session}
 use Rattle.std.specs.Str.{bytes_eq}
-use Rattle.vault_model.specs.Path.{front, last}
-use Rattle.vault_model.specs.Limits.{most_items, most_claims, most_sessions, last_number, longest_content, most_drafts, most_weight}
-use Rattle.vault_model.specs.Note.{is_note}
-use Rattle.vault_model.specs.Shelf.{Draft, versions_of, numbered, is_shelvable}
-use Rattle.vault_model.specs.Drafts.{SavedDraft, new_draft, with_draft, drafts_of, content_at}
-use Rattle.vault_model.specs.declared.place.Kind.TheVariants.{Assembly}
-use Rattle.vault_model.specs.Tree.{find_place, child, names_under, path_of, is_part, is_full, kind_under, may_nest_under}
-use Rattle.vault_model.specs.Claims.{claim_of, is_held, is_session, in_way_of, change_set, covering, standing_behind, standing_of, claims_at}
-use Rattle.vault_model.specs.Vault.{Vault, weight_of, session_of, counted}
+use Rattle.vault_state.specs.Path.{front, last}
+use Rattle.vault_state.specs.Limits.{most_items, most_claims, most_sessions, last_number, longest_content, most_drafts, most_weight}
+use Rattle.vault_state.specs.Note.{is_note}
+use Rattle.vault_state.specs.Shelf.{Draft, versions_of, numbered, is_shelvable}
+use Rattle.vault_state.specs.Drafts.{SavedDraft, new_draft, with_draft, drafts_of, content_at}
+use Rattle.vault_state.specs.declared.place.Kind.TheVariants.{Assembly}
+use Rattle.vault_state.specs.Tree.{find_place, child, names_under, path_of, is_part, is_full, kind_under, may_nest_under}
+use Rattle.vault_state.specs.Claims.{claim_of, is_held, is_session, in_way_of, change_set, covering, standing_behind, standing_of, claims_at}
+use Rattle.vault_state.specs.Vault.{Vault, weight_of, session_of, counted}
 use Rattle.vault_model.specs.Changes.{with_session, gone, with_place, with_check_out, with_hold, with_items, with_content, with_versions, without_check_out, with_owner, with_note, without_hold}
 
 -- a reply, the vault after it, and the durable change

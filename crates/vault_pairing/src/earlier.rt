@@ -1,8 +1,8 @@
 //! Whether one vault may be an earlier state of another.
 ghost use Rattle.std.specs.Prelude.{◌≡◌, ◌↔◌, ◌-◌, ◌<◌, ◌≤◌, ℕ, IsTrue, length, slice_get};
-ghost use Rattle.vault_model.specs.Shelf.{numbered, versions_of};
-ghost use Rattle.vault_model.specs.Tree.{IsTree};
-ghost use Rattle.vault_model.specs.Vault.{IsVault};
+ghost use Rattle.vault_state.specs.Shelf.{numbered, versions_of};
+ghost use Rattle.vault_state.specs.Tree.{IsTree};
+ghost use Rattle.vault_state.specs.Vault.{IsVault};
 ghost use Rattle.vault_store.specs.Earlier.{BeginsWith, IsEarlier};
 
 use design_tree::Tree;

@@ -9,8 +9,8 @@ use Rattle.std.proofs.lemmas.Bool.{and_parts, and_from, leb-true, le-leb, lt-ltb
 use Rattle.std.proofs.lemmas.List.Elements.{All-get_or}
 use Rattle.std.proofs.lemmas.List.Sums.{position_or_len_is}
 use Rattle.std.proofs.lemmas.List.Splits.{join_with_byte-slice_split, length-slice_split}
-use Rattle.vault_model.proofs.FirstPart.{split_at_some}
-use Rattle.vault_model.proofs.Lists.{chosen}
+use Rattle.vault_state.proofs.FirstPart.{split_at_some}
+use Rattle.vault_state.proofs.Lists.{chosen}
 use Rattle.vault_protocol.specs.Limits.{last_connection}
 use Rattle.vault_lines.specs.Reading.{◌>>=◌}
 use Rattle.vault_lines.specs.Words.{number_in}

@@ -1,7 +1,7 @@
 -- A crash of both devices, and what is printed then.
 use Rattle.std.proofs.Common.{◌≡◌, ℕ, ◌+◌, ◌&&◌, Bool, cond, List, [], length, sym, ap, ◌∙◌, subst}
 use Rattle.std.specs.Prelude.{Ok}
-use Rattle.vault_model.specs.Vault.{durable}
+use Rattle.vault_state.specs.Vault.{durable}
 use Rattle.vault_device.specs.declared.history.Pick.{Pick}
 use Rattle.vault_journal.specs.Spelling.{records_of}
 use Rattle.vault_store.specs.declared.phase.Advanced.TheVariants.{Settled}

@@ -1,7 +1,7 @@
 -- A run that reaches what is seen of a vault goes on to what is seen of it later.
 use Rattle.std.proofs.Common.{◌≡◌, ◌≤◌, ◌&&◌, Bool, true, false, cond, List, [], ◌∷◌, ◌++◌, map, sym, ap, ◌∙◌, subst, arith, append_assoc}
 use Rattle.std.proofs.lemmas.List.{append-nil, map-append}
-use Rattle.vault_model.specs.Vault.{Vault, durable}
+use Rattle.vault_state.specs.Vault.{Vault, durable}
 use Rattle.vault_device.specs.declared.history.Pick.{Pick}
 use Rattle.vault_store.specs.Phases.{is_opening}
 use Rattle.group_commit.specs.World.{World, new_world, Act, StaysClosed, IsOpen, kept_by, crashed}

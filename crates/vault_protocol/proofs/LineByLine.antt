@@ -4,7 +4,7 @@ use Rattle.std.specs.Prelude.{Option, Some, None, IfSome}
 use Rattle.std.specs.Option.{option_copied}
 use Rattle.std.proofs.KnownBytes.{Appends-nil}
 use Rattle.std.proofs.lemmas.List.{append-nil}
-use Rattle.vault_model.proofs.FirstPart.{bytes_left}
+use Rattle.vault_state.proofs.FirstPart.{bytes_left}
 use Rattle.vault_protocol.proofs.Written.{Written}
 use Rattle.vault_protocol.specs.Talk.{Talk, said, committed}
 use Rattle.vault_protocol.specs.Script.{said_for, printed}

@@ -1,7 +1,7 @@
 -- What a crash leaves doesn't depend on marks.
 use Rattle.std.proofs.Common.{◌≡◌, ℕ, zero, suc, ◌-◌, List, [], ◌∷◌, ◌++◌, map, take, drop, refl, sym, ap, subst, ◌∙◌}
 use Rattle.std.specs.Prelude.{option_to_list}
-use Rattle.vault_model.specs.Vault.{Vault}
+use Rattle.vault_state.specs.Vault.{Vault}
 use Rattle.group_commit.specs.declared.mark.Mark.{Mark}
 use Rattle.group_commit.specs.declared.mark.Mark.TheVariants.{Forgotten as Gone}
 use Rattle.group_commit.specs.declared.answers.Forgotten.{Forgotten}

@@ -2,7 +2,7 @@
 use Rattle.std.proofs.Common.{◌≡◌, ◌≢◌, ℕ, ◌+◌, ◌^◌, ◌&&◌, Bool, true, false, not, cond, List, [], length, refl, sym, ap, ◌∙◌, subst}
 use Rattle.std.specs.Prelude.{nat_lt, Result, Ok}
 use Rattle.std.proofs.lemmas.Bool.{and_from, and_parts, lt-ltb, ltb-true}
-use Rattle.vault_model.specs.Vault.{durable}
+use Rattle.vault_state.specs.Vault.{durable}
 use Rattle.vault_device.specs.declared.device.Fault.{Fault}
 use Rattle.vault_store.specs.declared.phase.Advanced.{Advanced as Pumped}
 use Rattle.vault_store.specs.declared.phase.Advanced.TheVariants as answers
@@ -17,7 +17,7 @@ use Rattle.group_commit.specs.Calls.{AreNumbers, MayStart, generation_after, tai
 use Rattle.vault_store.proofs.Busy.{idle_is}
 use Rattle.vault_protocol.specs.Talk.{Line, Talk, pumped, may_start, started}
 use Rattle.vault_protocol.proofs.Staging.{talk_of}
-use Rattle.vault_model.proofs.Lists.{refuted}
+use Rattle.vault_state.proofs.Lists.{refuted}
 
 same_answer : (a b : Pumped) (e : ◌≡◌ {A = Result Pumped Fault} (Ok a) (Ok b)) → a ≡ b
 same_answer a b e = cc e

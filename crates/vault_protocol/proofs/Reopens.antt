@@ -1,7 +1,7 @@
 -- What a vault in memory is read as after its devices crashed with a pick.
 use Rattle.std.proofs.Common.{◌≡◌, ℕ, ◌+◌, ◌&&◌, IsTrue, Bool, true, false, cond, List, [], length, refl, sym, ap, ◌∙◌, subst, arith}
 use Rattle.std.specs.Prelude.{◌↔◌, slice_index, Ok}
-use Rattle.vault_model.specs.Vault.{Vault, durable}
+use Rattle.vault_state.specs.Vault.{Vault, durable}
 use Rattle.vault_device.specs.declared.history.Pick.{Pick}
 use Rattle.vault_device.specs.Memory.{content_of, picked}
 use Rattle.vault_device.specs.MemDevice.{MemDisk, disk_of}

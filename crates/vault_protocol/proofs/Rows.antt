@@ -1,8 +1,8 @@
 -- The scripts that were worked out by hand, computed.
 use Rattle.std.specs.Prelude.{refl}
 use Rattle.std.specs.Fmt.{digits}
-use Rattle.vault_model.specs.Claims.{overlap}
-use Rattle.vault_model.specs.Shelf.{is_shelvable}
+use Rattle.vault_state.specs.Claims.{overlap}
+use Rattle.vault_state.specs.Shelf.{is_shelvable}
 use Rattle.hex.specs.Hex.{decode_pairs, encode_with}
 use Rattle.vault_model.specs.Step.{step, decide, chained, join, make, admitted, permitted, usable, check_out, extend, save, check_in, abandon, hold, release, state, list, fetch, count}
 use Rattle.vault_protocol.specs.Talk.{pumped, committed, all_gone}

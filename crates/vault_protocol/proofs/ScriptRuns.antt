@@ -4,7 +4,7 @@ use Rattle.std.specs.Prelude.{codes, nat_lt, slice_index}
 use Rattle.std.specs.Str.{bytes_eq}
 use Rattle.std.proofs.lemmas.Bool.{and_parts, ltb-true}
 use Rattle.vault_model.specs.Said.{Command}
-use Rattle.vault_model.specs.Vault.{Vault, durable}
+use Rattle.vault_state.specs.Vault.{Vault, durable}
 use Rattle.vault_device.specs.declared.history.Pick.{Pick}
 use Rattle.vault_store.specs.Phases.{is_idle, is_opening}
 use Rattle.group_commit.specs.declared.mark.Mark.TheVariants.{Open, Told}

@@ -2,10 +2,10 @@
 use Rattle.std.proofs.Common.{◌≡◌, ℕ, ◌+◌, ◌-◌, ◌^◌, ◌<◌, ◌==◌, ◌||◌, ◌&&◌, Bool, true, false, cond, List, [], ◌∷◌, ◌++◌, length, refl, sym, ap, ◌∙◌, arith, inl, inr, eq-eqb, slice_set, length-append, subst}
 use Rattle.std.specs.Prelude.{nat_le, nat_lt, slice_index, Option, Some, None}
 use Rattle.std.proofs.lemmas.Bool.{cond-false, leb-true, ltb-true, eqb-true, leb-false, ltb-false, le-leb, lt-ltb, and_from}
-use Rattle.vault_model.proofs.Overlaps.{neither}
+use Rattle.vault_state.proofs.Overlaps.{neither}
 use Rattle.vault_model.specs.Said.{Command, Effect}
 use Rattle.vault_model.specs.Step.{step}
-use Rattle.vault_model.proofs.Lists.{refuted, and_never}
+use Rattle.vault_state.proofs.Lists.{refuted, and_never}
 use Rattle.vault_journal.specs.Spelling.{record_of}
 use Rattle.vault_store.specs.Seen.{StoreSeen, has_room, most_noted, last_tail}
 use Rattle.group_commit.specs.World.{Stage}

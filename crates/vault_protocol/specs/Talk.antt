@@ -3,7 +3,7 @@ use Rattle.std.specs.Prelude.{ℕ, zero, suc, ◌+◌, ◌-◌, ◌/◌, ◌^◌
 use Rattle.std.specs.Option.{option_map}
 use Rattle.vault_model.specs.Said.{Command, Reply, Effect}
 use Rattle.vault_model.specs.declared.replies.Reply.TheVariants as replies
-use Rattle.vault_model.specs.Vault.{new_vault, durable}
+use Rattle.vault_state.specs.Vault.{new_vault, durable}
 use Rattle.vault_model.specs.Step.{step}
 use Rattle.vault_device.specs.declared.history.Pick.{Pick}
 use Rattle.vault_device.specs.Picks.{gives_one}

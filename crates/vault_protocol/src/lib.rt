@@ -3,7 +3,7 @@
 //! Promises: a script, with its commits, pumps, snapshots and crashes, prints exactly the output that its bytes mean, whatever
 //! pieces they are read in. If it fails, it has printed a prefix of that output. Each script is a run of the world (`run_script`,
 //! `laws`).
-//! Stands on: vault_model, vault_device, vault_journal, vault_store, group_commit, vault_lines, whose calls it re-exports.
+//! Stands on: vault_state, vault_model, vault_device, vault_journal, vault_store, group_commit, vault_lines, whose calls it re-exports.
 //! Must not know: sockets, files, threads.
 //!
 //! Invariants:

@@ -1,7 +1,7 @@
 //! The devices of a vault crash, and the vault is opened again.
 
 ghost use Rattle.std.specs.Prelude.{◌≡◌, ◌+◌, ◌%◌, ◌^◌, ◌&&◌, IfOk, IfErr, Ok, [], if◌then◌else◌};
-ghost use Rattle.vault_model.specs.Vault.{durable};
+ghost use Rattle.vault_state.specs.Vault.{durable};
 ghost use Rattle.vault_device.specs.Picks.{gives_one};
 ghost use Rattle.vault_store.specs.declared.phase.Advanced.TheVariants.{Settled};
 ghost use Rattle.vault_store.specs.Phases.{is_opening};

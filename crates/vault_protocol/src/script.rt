@@ -11,7 +11,7 @@ use crate::output::write_text;
 use crate::runner::Runner;
 use std::alloc::Allocator;
 use std::io::{Read, Write};
-use vault_model::split::cut;
+use vault_state::split::cut;
 
 /// Runs the lines of a script, and writes what it prints.
 fn run_lines<A: Allocator + Copy, W: Write>(

@@ -7,7 +7,7 @@ use Rattle.std.proofs.Crossing.{crosses as locks}
 use Rattle.std.proofs.CrossingOver.{crosses as over}
 use Rattle.std.specs.declared.sync.ledger.Ledger.{Ghosts as LedgerGhosts}
 use Rattle.mio.specs.contracts.poll.Poll as Poll
-use Rattle.vault_model.proofs.Sends.{fields}
+use Rattle.vault_state.proofs.Sends.{fields}
 use Rattle.vault_device.specs.declared.device.Device.{Ghosts as DeviceGhosts}
 use Rattle.tcp_door.proofs.Sends.{bell_sync, crowd_sync, receiver_send, sender_send}
 use Rattle.vault_sessions.specs.declared.tally.Tally.{Ghosts as TallyGhosts}

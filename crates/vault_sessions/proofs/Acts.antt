@@ -1,6 +1,6 @@
 -- A vault goes on by the acts of its calls, and these are a run.
 use Rattle.std.proofs.Common.{◌≡◌, List, [], ◌∷◌, ◌++◌, inl, inr, refl, sym, ap, ◌∙◌, subst}
-use Rattle.vault_model.specs.Vault.{Vault, IsVault, CountsBelow}
+use Rattle.vault_state.specs.Vault.{Vault, IsVault, CountsBelow}
 use Rattle.group_commit.specs.World.{World, world_of, Act}
 use Rattle.group_commit.specs.Runs.{Event, Within, happened, run, IsRun}
 use Rattle.group_commit.specs.View.{View, view_of, ViewAllows, view_acted}

@@ -8,7 +8,7 @@ use Rattle.std.proofs.Crossing.{crosses as locks}
 use Rattle.std.specs.declared.sync.ledger.Ledger.{Ghosts as LedgerGhosts}
 use Rattle.std.proofs.sync.ledger.Book.TheSendSync as Tallied
 use Rattle.std.proofs.sync.ledger.Share.TheSendSync as LedgerPart
-use Rattle.vault_model.proofs.Sends.{fields}
+use Rattle.vault_state.proofs.Sends.{fields}
 use Rattle.vault_device.specs.declared.device.Device.{Ghosts as DeviceGhosts}
 use Rattle.group_commit.proofs.Sends.{vault_send}
 use Rattle.vault_sessions.specs.declared.tally.Tally.{Ghosts as TallyGhosts}

@@ -1,6 +1,6 @@
 -- By which acts a vault goes on from one view to another, and that these are a run. This project's own.
 use Rattle.std.specs.Prelude.{◌≡◌, List, [], ◌∷◌, ◌++◌}
-use Rattle.vault_model.specs.Vault.{Vault, IsVault, CountsBelow}
+use Rattle.vault_state.specs.Vault.{Vault, IsVault, CountsBelow}
 use Rattle.group_commit.specs.World.{Act, world_of}
 use Rattle.group_commit.specs.Runs.{Event, Within, run, IsRun}
 use Rattle.group_commit.specs.View.{View, view_of, ViewAllows, view_acted}

@@ -1,9 +1,9 @@
 -- Which claims wait in the queue of claims, in the vault after all entries. This project's own.
 use Rattle.std.specs.Prelude.{Option, Some, None}
-use Rattle.vault_model.specs.Claims.{standing_of}
-use Rattle.vault_model.specs.declared.ids.ClaimId.{ClaimId}
-use Rattle.vault_model.specs.declared.claims.Standing.{Standing}
-use Rattle.vault_model.specs.declared.claims.Standing.TheVariants.{Held, Queued}
+use Rattle.vault_state.specs.Claims.{standing_of}
+use Rattle.vault_state.specs.declared.ids.ClaimId.{ClaimId}
+use Rattle.vault_state.specs.declared.claims.Standing.{Standing}
+use Rattle.vault_state.specs.declared.claims.Standing.TheVariants.{Held, Queued}
 use Rattle.group_commit.specs.View.{View, book_of}
 
 -- it stands behind another claim

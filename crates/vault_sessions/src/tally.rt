@@ -1,6 +1,6 @@
 //! Two tallies: how many commands were staged, and how many replies were handed out.
 ghost use Rattle.std.specs.Prelude.{◌≡◌, ℕ, ◌+◌, ◌≤◌};
-ghost use Rattle.vault_model.specs.Vault.{new_vault};
+ghost use Rattle.vault_state.specs.Vault.{new_vault};
 ghost use Rattle.group_commit.specs.View.{View, opened_view};
 
 use std::marker::{Brand, Model};

@@ -2,10 +2,10 @@
 use Rattle.std.proofs.Common.{◌≡◌, ◌≢◌, inl, inr, ℕ, zero, suc, ◌+◌, ◌<◌, ◌≤◌, true, IsTrue, List, [], ◌∷◌, ◌++◌, length, take, Some, refl, ◌∙◌, ap, arith}
 use Rattle.std.specs.Prelude.{slice_get, ◌↔◌}
 use Rattle.std.proofs.lemmas.Bool.{cases_lt}
-use Rattle.vault_model.specs.declared.place.Place.{Place}
-use Rattle.vault_model.specs.Shelf.{versions_of}
-use Rattle.vault_model.specs.Tree.{is_part}
-use Rattle.vault_model.specs.Vault.{AreVersions}
+use Rattle.vault_state.specs.declared.place.Place.{Place}
+use Rattle.vault_state.specs.Shelf.{versions_of}
+use Rattle.vault_state.specs.Tree.{is_part}
+use Rattle.vault_state.specs.Vault.{AreVersions}
 use Rattle.vault_store.specs.Earlier.{BeginsWith}
 
 some_once : {A : Type 0} (x y : A) → Some y ≡ Some x → y ≡ x

@@ -6,7 +6,7 @@ use Rattle.std.proofs.lemmas.Nat.{from_be_bytes-to_be_bytes_4}
 use Rattle.std.specs.Result.{IsErrAnd}
 use Rattle.std.proofs.Math.Seq.{take-add}
 use Rattle.std.proofs.lemmas.List.{drop_more, drop_all, drop-drop, drop-take, take-take, length-drop, length-take-le}
-use Rattle.vault_model.specs.Vault.{Vault}
+use Rattle.vault_state.specs.Vault.{Vault}
 use Rattle.vault_device.specs.Disk.{Disk, IsOneCall, IsRead}
 use Rattle.vault_journal.specs.Spelling.{in_four}
 use Rattle.vault_store.specs.declared.body.ReadError.{ReadError}

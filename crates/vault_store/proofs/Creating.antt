@@ -2,7 +2,7 @@
 use Rattle.std.proofs.Common.{◌≡◌, inl, inr, ℕ, List, [], ◌∷◌, length, set, get_or, refl, sym, ◌∙◌, ap, subst, arith, IsTrue}
 use Rattle.std.proofs.lemmas.Bool.{cases_eq}
 use Rattle.std.specs.Prelude.{slice_index}
-use Rattle.vault_model.specs.Vault.{new_vault}
+use Rattle.vault_state.specs.Vault.{new_vault}
 use Rattle.vault_device.specs.Disk.{Disk, IsLawful, IsTorn, IsTornImage, LeavesOnly, LeavesSince, overwritten}
 use Rattle.vault_device.proofs.Moments.{and_then, stands_now}
 use Rattle.vault_device.proofs.Torn.{torn_byte, torn_none}

@@ -5,8 +5,8 @@ use Rattle.std.proofs.lemmas.Nat.{from_be_bytes-to_be_bytes_4}
 use Rattle.std.proofs.lemmas.List.{take_at, drop_more}
 use Rattle.std.proofs.lemmas.List.Concat.{flat_map-cons}
 use Rattle.vault_model.specs.Said.{Effect}
-use Rattle.vault_model.specs.Vault.{Vault}
-use Rattle.vault_model.proofs.Lists.{and_then_some}
+use Rattle.vault_state.specs.Vault.{Vault}
+use Rattle.vault_state.proofs.Lists.{and_then_some}
 use Rattle.vault_journal.specs.Spelling.{in_four, records_of}
 use Rattle.vault_journal.proofs.OneSpelling.{one_row}
 use Rattle.vault_format.specs.declared.version.FileVersion.{FileVersion}

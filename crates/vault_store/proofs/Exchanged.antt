@@ -2,7 +2,7 @@
 use Rattle.std.proofs.Common.{◌≡◌, inr, ℕ, ◌+◌, ◌<◌, ◌^◌, IsTrue, Bool, false, cond, not, ◌&&◌, List, [], ◌∷◌, ◌++◌, length, Some, refl, sym, ◌∙◌, ap, subst, arith, length-append, Ok}
 use Rattle.std.proofs.lemmas.Bool.{false≢true}
 use Rattle.vault_model.specs.Said.{Effect}
-use Rattle.vault_model.specs.Vault.{Vault}
+use Rattle.vault_state.specs.Vault.{Vault}
 use Rattle.vault_device.specs.Disk.{Disk, IsLawful, IsOneCall, IsSync, LeavesSince}
 use Rattle.vault_device.specs.declared.device.Fault.{Fault}
 use Rattle.vault_journal.specs.Spelling.{in_four, in_eight, records_of}

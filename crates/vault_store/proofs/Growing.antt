@@ -3,22 +3,22 @@ use Rattle.std.proofs.Common.{◌≡◌, ℕ, ◌+◌, ◌==◌, Bool, true, fal
 use Rattle.std.proofs.lemmas.Bool.Decides.{nat_tests}
 use Rattle.std.specs.Prelude.{◌&&◌}
 use Rattle.std.specs.Option.{option_and_then}
-use Rattle.vault_model.specs.declared.place.Place.{Place}
-use Rattle.vault_model.specs.declared.place.Kind.{Kind}
-use Rattle.vault_model.specs.declared.place.Kind.TheVariants.{Assembly}
-use Rattle.vault_model.specs.declared.claims.Item.{Item}
-use Rattle.vault_model.specs.declared.claims.Claim.{Claim}
-use Rattle.vault_model.specs.declared.ids.ClaimId.TheVariants.{Long}
+use Rattle.vault_state.specs.declared.place.Place.{Place}
+use Rattle.vault_state.specs.declared.place.Kind.{Kind}
+use Rattle.vault_state.specs.declared.place.Kind.TheVariants.{Assembly}
+use Rattle.vault_state.specs.declared.claims.Item.{Item}
+use Rattle.vault_state.specs.declared.claims.Claim.{Claim}
+use Rattle.vault_state.specs.declared.ids.ClaimId.TheVariants.{Long}
 use Rattle.vault_model.specs.declared.effects.Effect.TheVariants as effects
-use Rattle.vault_model.specs.Tree.{new_place, kind_under}
+use Rattle.vault_state.specs.Tree.{new_place, kind_under}
 use Rattle.vault_model.specs.Said.{Effect}
-use Rattle.vault_model.specs.Shelf.{Draft, versions_of, shelved, shelved_all}
-use Rattle.vault_model.specs.Drafts.{drafts_of}
-use Rattle.vault_model.specs.Claims.{claim_of}
-use Rattle.vault_model.specs.Vault.{Vault}
+use Rattle.vault_state.specs.Shelf.{Draft, versions_of, shelved, shelved_all}
+use Rattle.vault_state.specs.Drafts.{drafts_of}
+use Rattle.vault_state.specs.Claims.{claim_of}
+use Rattle.vault_state.specs.Vault.{Vault}
 use Rattle.vault_model.specs.Changes.{with_place}
 use Rattle.vault_model.specs.After.{only_if, may_ask, after, after_made, after_nested, after_asked, after_extended, after_saved, after_checked_in, after_abandoned, after_given, after_noted}
-use Rattle.vault_model.proofs.Shelves.{versions_of-shelved, versions_of-shelved_other}
+use Rattle.vault_state.proofs.Shelves.{versions_of-shelved, versions_of-shelved_other}
 use Rattle.vault_format.specs.Files.{applied, after_frames}
 use Rattle.vault_store.specs.Earlier.{BeginsWith, IsEarlier}
 use Rattle.vault_store.proofs.Begun.{begun_same, begun_more, begun_on}

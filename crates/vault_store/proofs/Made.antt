@@ -6,7 +6,7 @@ use Rattle.std.proofs.lemmas.List.{drop_more}
 use Rattle.vault_model.specs.After.{after}
 use Rattle.vault_checkout.specs.Applied.{Applies}
 use Rattle.vault_model.specs.Said.{Effect}
-use Rattle.vault_model.specs.Vault.{Vault}
+use Rattle.vault_state.specs.Vault.{Vault}
 use Rattle.vault_journal.specs.Rows.{AreRecordsOf}
 use Rattle.vault_journal.proofs.OneSpelling.{one_row}
 use Rattle.vault_checkout.specs.declared.apply.ApplyError.{ApplyError}

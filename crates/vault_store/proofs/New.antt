@@ -2,10 +2,10 @@
 use Rattle.std.proofs.Common.{◌≡◌, inl, ℕ, IsTrue, List, [], refl, sym, subst, arith, false}
 use Rattle.std.proofs.lemmas.Bool.{false≢true}
 use Rattle.std.proofs.lemmas.List.Elements.{All-nil}
-use Rattle.vault_model.specs.declared.place.Place.{Place}
-use Rattle.vault_model.specs.declared.claims.Claim.{Claim}
-use Rattle.vault_model.specs.Name.{IsName}
-use Rattle.vault_model.specs.Vault.{new_vault}
+use Rattle.vault_state.specs.declared.place.Place.{Place}
+use Rattle.vault_state.specs.declared.claims.Claim.{Claim}
+use Rattle.vault_state.specs.Name.{IsName}
+use Rattle.vault_state.specs.Vault.{new_vault}
 use Rattle.vault_model.proofs.Kept.{kept_new}
 use Rattle.vault_device.specs.Disk.{Disk, IsTorn}
 use Rattle.vault_store.specs.declared.opening.File.TheVariants.{First}

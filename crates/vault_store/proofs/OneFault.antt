@@ -4,8 +4,8 @@ use Rattle.std.specs.List.{AllByRecursion}
 use Rattle.std.proofs.lemmas.List.{length-take-le}
 use Rattle.std.proofs.lemmas.List.Concat.{flat_map-cons}
 use Rattle.vault_model.specs.Said.{Effect}
-use Rattle.vault_model.specs.Vault.{Vault}
-use Rattle.vault_model.proofs.Lists.{and_then_some}
+use Rattle.vault_state.specs.Vault.{Vault}
+use Rattle.vault_state.proofs.Lists.{and_then_some}
 use Rattle.vault_journal.specs.Spelling.{in_four, records_of}
 use Rattle.vault_journal.proofs.OneSpelling.{one_row}
 use Rattle.vault_store.specs.declared.opening.File.TheVariants.{First, Second}

@@ -2,7 +2,7 @@
 use Rattle.std.proofs.Common.{◌≡◌, ℕ, ◌+◌, IsTrue, Bool, false, not, ◌&&◌, cond, List, [], length, Some, refl, sym, ◌∙◌, ap, arith, Result}
 use Rattle.std.proofs.lemmas.Bool.{false≢true}
 use Rattle.vault_model.specs.Said.{Effect}
-use Rattle.vault_model.specs.Vault.{Vault}
+use Rattle.vault_state.specs.Vault.{Vault}
 use Rattle.vault_device.specs.Disk.{Disk}
 use Rattle.vault_device.specs.declared.device.Fault.{Fault}
 use Rattle.vault_journal.specs.Rows.{AreRecordsOf}

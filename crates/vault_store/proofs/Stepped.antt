@@ -3,7 +3,7 @@ use Rattle.std.proofs.Common.{◌≡◌, ℕ, ◌+◌, ◌<◌, IsTrue, List, �
 use Rattle.std.specs.Prelude.{slice_range}
 use Rattle.std.specs.Result.{IsErrAnd}
 use Rattle.vault_model.specs.Said.{Effect}
-use Rattle.vault_model.specs.Vault.{Vault}
+use Rattle.vault_state.specs.Vault.{Vault}
 use Rattle.vault_device.specs.Disk.{Disk}
 use Rattle.vault_journal.specs.Spelling.{in_four, records_of}
 use Rattle.vault_checkout.specs.declared.apply.ApplyError.TheVariants.{NotApplicable}

@@ -1,6 +1,6 @@
 -- A whole file with a right head holds its vault.
 use Rattle.std.proofs.Common.{◌≡◌, ℕ, List, ◌++◌, length, take, refl, subst}
-use Rattle.vault_model.specs.Vault.{Vault}
+use Rattle.vault_state.specs.Vault.{Vault}
 use Rattle.vault_journal.specs.Gate.{IsClosed}
 use Rattle.vault_format.specs.declared.version.FileVersion.{FileVersion}
 use Rattle.vault_format.specs.Files.{head_of, snapshot_bytes, frames_bytes, Holds, HasHead}

@@ -1,6 +1,6 @@
 -- The two files of a store are of one vault. This project's own.
 use Rattle.std.specs.Prelude.{◌≡◌, ℕ, ◌+◌, IsTrue, Bool, List}
-use Rattle.vault_model.specs.Vault.{Vault}
+use Rattle.vault_state.specs.Vault.{Vault}
 use Rattle.vault_device.specs.Disk.{Disk}
 use Rattle.vault_format.specs.Files.{HasRightHead}
 use Rattle.vault_store.specs.declared.phase.Phase.{Phase}

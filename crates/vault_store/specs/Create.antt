@@ -1,6 +1,6 @@
 -- A new vault, and why none was made. This project's own.
 use Rattle.std.specs.Prelude.{◌≡◌, ◌≢◌, ◌⊎◌, ℕ, IsTrue, List, [], ◌∷◌, ◌++◌}
-use Rattle.vault_model.specs.Vault.{new_vault}
+use Rattle.vault_state.specs.Vault.{new_vault}
 use Rattle.vault_device.specs.Disk.{Disk, LeavesOnly}
 use Rattle.vault_store.specs.declared.creation.CreateError.{CreateError}
 use Rattle.vault_store.specs.declared.creation.CreateError.TheVariants.{Exists, Device, NoMemory}

@@ -1,7 +1,7 @@
 -- Whether one vault may be an earlier state of another. This project's own.
 use Rattle.std.specs.Prelude.{◌≡◌, ℕ, ◌≤◌, List, length, take}
-use Rattle.vault_model.specs.Shelf.{versions_of}
-use Rattle.vault_model.specs.Vault.{Vault}
+use Rattle.vault_state.specs.Shelf.{versions_of}
+use Rattle.vault_state.specs.Vault.{Vault}
 
 -- a list begins with another
 abbrev pub BeginsWith : {A : Type 0} → List A → List A → Type 0

@@ -1,6 +1,6 @@
 -- What is promised of the files of a store. This project's own.
 use Rattle.std.specs.Prelude.{◌≡◌, ◌≢◌, ℕ, IsTrue, true, false, List, slice_index}
-use Rattle.vault_model.specs.Vault.{Vault}
+use Rattle.vault_state.specs.Vault.{Vault}
 use Rattle.vault_device.specs.Disk.{Disk}
 use Rattle.vault_journal.specs.Gate.{SameBut}
 use Rattle.vault_store.specs.declared.opening.OpenError.{OpenError}

@@ -1,11 +1,11 @@
 -- Files worked out by hand, which the definitions have to give. This project's own.
 use Rattle.std.specs.Prelude.{◌≡◌, [], ◌∷◌, ◌++◌, codes}
 use Rattle.vault_model.specs.declared.effects.Effect.TheVariants as effects
-use Rattle.vault_model.specs.declared.ids.Intent.TheVariants.{Change}
-use Rattle.vault_model.specs.Vault.{Vault, new_vault}
-use Rattle.vault_model.specs.declared.place.Kind.TheVariants.{Project}
-use Rattle.vault_model.specs.Tree.{new_place}
-use Rattle.vault_model.specs.Claims.{new_check_out}
+use Rattle.vault_state.specs.declared.ids.Intent.TheVariants.{Change}
+use Rattle.vault_state.specs.Vault.{Vault, new_vault}
+use Rattle.vault_state.specs.declared.place.Kind.TheVariants.{Project}
+use Rattle.vault_state.specs.Tree.{new_place}
+use Rattle.vault_state.specs.Claims.{new_check_out}
 use Rattle.vault_model.specs.Changes.{with_owner, with_note}
 use Rattle.vault_format.specs.declared.version.FileVersion.TheVariants.{One, Two}
 use Rattle.vault_format.specs.Snapshot.{snapshot_of, spelling_of}

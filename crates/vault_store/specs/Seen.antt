@@ -1,7 +1,7 @@
 -- What contracts see of a store, and how it keeps vaults. This project's own.
 use Rattle.std.specs.Prelude.{◌≡◌, ◌≢◌, ◌⊎◌, ℕ, ◌+◌, ◌<◌, ◌≤◌, ◌^◌, IsTrue, Bool, true, false, ◌&&◌, ◌||◌, nat_le, nat_lt, if◌then◌else◌, List, [], length, slice_index, Some}
 use Rattle.std.specs.List.{AllByRecursion}
-use Rattle.vault_model.specs.Vault.{Vault}
+use Rattle.vault_state.specs.Vault.{Vault}
 use Rattle.vault_device.specs.Disk.{Disk}
 use Rattle.vault_journal.specs.Spelling.{records_of, HasRecord}
 use Rattle.vault_journal.specs.Rows.{AreRecordsOf}

@@ -1,7 +1,7 @@
 -- Two files that are of two vaults. This project's own.
 use Rattle.std.specs.Prelude.{◌≡◌, ◌≢◌, ◌⊎◌, ℕ, ◌+◌, ◌<◌, Bool, true, false, List, [], ◌++◌, Option, Some, None}
 use Rattle.vault_model.specs.Said.{Effect}
-use Rattle.vault_model.specs.Vault.{Vault}
+use Rattle.vault_state.specs.Vault.{Vault}
 use Rattle.vault_device.specs.Disk.{Disk, IsTorn}
 use Rattle.vault_format.specs.declared.version.FileVersion.{FileVersion}
 use Rattle.vault_format.specs.Snapshot.{HasSpelling}

@@ -9,7 +9,7 @@
 //! offset. It writes nothing (`open`; for one file alone `read_head` and `read_body`).
 //! The files of one vault are never what `vault_pairing` reports as those of two: those of a creation are of one vault, each call keeps
 //! them so, and whatever a crash leaves of them, also inside a call, isn't reported (`advance`, `laws`).
-//! Stands on: vault_model, vault_device, vault_journal, vault_format, design_tree, part_versions, vault_checkout. Must not know:
+//! Stands on: vault_state, vault_model, vault_device, vault_journal, vault_format, design_tree, part_versions, vault_checkout. Must not know:
 //! commands, replies, sessions, tickets, how many entries there are.
 //!
 //! Invariants, of `Store`:

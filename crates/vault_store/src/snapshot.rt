@@ -1,6 +1,6 @@
 //! Reads the snapshot of a vault.
 ghost use Rattle.std.specs.Prelude.{◌≡◌, ◌≢◌, ◌+◌, ◌≤◌, Err, IfOk, IfErr, IsTrue, length, OnOk};
-ghost use Rattle.vault_model.specs.Vault.{Vault};
+ghost use Rattle.vault_state.specs.Vault.{Vault};
 ghost use Rattle.vault_format.specs.declared.error.SnapshotError.TheVariants as errors;
 ghost use Rattle.vault_format.specs.Files.{header};
 ghost use Rattle.vault_format.specs.Snapshot.{spelling_of, HasSpelling};

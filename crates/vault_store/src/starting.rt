@@ -1,6 +1,6 @@
 //! The first call of a snapshot.
 ghost use Rattle.std.specs.Prelude.{◌≡◌, Ok, OnErr};
-ghost use Rattle.vault_model.specs.Vault.{IsVault, durable};
+ghost use Rattle.vault_state.specs.Vault.{IsVault, durable};
 ghost use Rattle.vault_store.specs.declared.starting.Started.TheVariants as answers;
 ghost use Rattle.vault_format.specs.Snapshot.{HasSnapshot};
 ghost use Rattle.vault_store.specs.Companions.{IsOfOneVault};

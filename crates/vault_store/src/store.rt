@@ -1,7 +1,7 @@
 //! A store: two devices, and the frame to fill.
 ghost use Rattle.std.specs.Prelude.{◌≡◌, ◌-◌, ◌++◌, length, IsTrue};
 ghost use Rattle.vault_journal.specs.Spelling.{record_of, HasRecord};
-ghost use Rattle.vault_model.specs.Vault.{Vault};
+ghost use Rattle.vault_state.specs.Vault.{Vault};
 ghost use Rattle.vault_model.specs.After.{after};
 ghost use Rattle.vault_store.specs.Companions.{IsOfOneVault};
 ghost use Rattle.vault_store.specs.State.{StoreState, with_effect};

@@ -9,7 +9,7 @@ use long_locks::{FromClaimsError, Line};
 use std::alloc::Global;
 use std::process::Abort;
 use test_memory::{Outcome, Refusing};
-use vault_model::{Claim, ClaimId, Name, NoMemory, Note, PlaceId, Standing};
+use vault_state::{Claim, ClaimId, Name, NoMemory, Note, PlaceId, Standing};
 
 /// The memory of a line.
 pub(super) type Memory<'a> = &'a Refusing<Global>;

@@ -1,6 +1,6 @@
 //! Random lines, against a plain program that judges claims place by place.
 ghost use Rattle.std.specs.Prelude.{◌<◌, List};
-ghost use Rattle.vault_model.specs.declared.place.Place.{Place};
+ghost use Rattle.vault_state.specs.declared.place.Place.{Place};
 ghost use Rattle.long_locks.specs.Lines.{IsGrownFrom};
 
 use super::{ask, claim_of, extend, has_claim, new_line};
@@ -11,7 +11,7 @@ use lock_table::Extension;
 use long_locks::Line;
 use std::alloc::Allocator;
 use std::process::Abort;
-use vault_model::{Claim, ClaimId, Intent, Item, Items, Kind, Owner, PlaceId, Standing};
+use vault_state::{Claim, ClaimId, Intent, Item, Items, Kind, Owner, PlaceId, Standing};
 
 /// Numbers that look random, the same in each run.
 #[derive(Drop)]

@@ -12,7 +12,7 @@ use lock_table::Extension::Done;
 use long_locks::Line;
 use std::process::Abort;
 use test_memory::{Outcome, Refusing, requests};
-use vault_model::{ClaimId, Intent, Standing};
+use vault_state::{ClaimId, Intent, Standing};
 
 // Tries a row. If it is refused, the line must be as its twin still, and the next try must succeed.
 fn takes<'a>(

@@ -9,7 +9,7 @@ use long_locks::FromClaimsError;
 use std::alloc::Global;
 use std::process::Abort;
 use test_memory::Refusing;
-use vault_model::{ClaimId, Intent, Standing};
+use vault_state::{ClaimId, Intent, Standing};
 
 static LINES: [Worked<Row>; 11] = [
     ("a new line", &[Row::Counts(0, 0, 0)]),

@@ -11,7 +11,7 @@ use lock_table::{Extension, Table};
 use std::alloc::Allocator;
 use std::process::Abort;
 use test_memory::Outcome;
-use vault_model::{ClaimId, Intent, NoMemory, PlaceId, Standing};
+use vault_state::{ClaimId, Intent, NoMemory, PlaceId, Standing};
 
 pub(super) const C1: ClaimId = ClaimId::Long(1);
 

@@ -9,7 +9,7 @@ use lock_table::Table;
 use std::alloc::Global;
 use std::process::Abort;
 use test_memory::{Outcome, Refusing, requests};
-use vault_model::{ClaimId, Intent, Standing};
+use vault_state::{ClaimId, Intent, Standing};
 
 // Tries a row. If it is refused, the table must be as its twin still, and the next try must succeed.
 fn takes<'a>(

@@ -1,6 +1,6 @@
 //! The bytes of a snapshot's file.
 ghost use Rattle.std.specs.Prelude.{◌≡◌, ◌≤◌, ◌-◌, ◌++◌, [], ◌∷◌, IfOk, length};
-ghost use Rattle.vault_model.specs.Vault.{IsVault, durable};
+ghost use Rattle.vault_state.specs.Vault.{IsVault, durable};
 ghost use Rattle.vault_device.specs.Disk.{overwritten};
 ghost use Rattle.vault_journal.specs.Spelling.{in_four, in_eight};
 ghost use Rattle.vault_format.specs.Snapshot.{current_version, HasSnapshot};

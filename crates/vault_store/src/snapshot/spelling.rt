@@ -3,10 +3,10 @@
 
 ghost use Rattle.std.specs.Prelude.{◌≡◌, ◌<◌, ◌≤◌, ◌-◌, ◌∷◌, [], length, slice_get, Some};
 ghost use Rattle.std.specs.List.{flat_map};
-ghost use Rattle.vault_model.specs.Claims.{without_short};
-ghost use Rattle.vault_model.specs.Tree.{IsTree};
-ghost use Rattle.vault_model.specs.Vault.{AreDrafts, IsVault, durable};
-ghost use Rattle.vault_model.specs.declared.place.Place.{Place};
+ghost use Rattle.vault_state.specs.Claims.{without_short};
+ghost use Rattle.vault_state.specs.Tree.{IsTree};
+ghost use Rattle.vault_state.specs.Vault.{AreDrafts, IsVault, durable};
+ghost use Rattle.vault_state.specs.declared.place.Place.{Place};
 ghost use Rattle.vault_format.specs.Snapshot.{current_version, snapshot_of, claim_bytes, place_bytes, places_bytes};
 ghost use Rattle.vault_format.specs.Adds.{Adds};
 

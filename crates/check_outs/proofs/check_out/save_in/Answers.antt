@@ -1,6 +1,6 @@
 use Rattle.std.proofs.Common.{rules, ◌≡◌, sym, subst, slice_set, insert}
 use Rattle.std.proofs.lemmas.List.Sorted.{answers_always}
-use Rattle.vault_model.specs.Shelf.{Draft}
+use Rattle.vault_state.specs.Shelf.{Draft}
 use Rattle.check_outs.specs.CheckOuts.{IsRising, with_own}
 use Rattle.check_outs.proofs.OwnDrafts.{written_over, put_in, rising_with, insert_ok, insert_rising}
 use Rattle.check_outs.proofs.check_out.save_in.Goals as goal

@@ -1,6 +1,6 @@
 use Rattle.std.specs.Prelude.{◌≡◌, ◌+◌, drop, sum_by}
-use Rattle.vault_model.specs.Limits.{most_weight}
-use Rattle.vault_model.specs.Shelf.{weight, drafts_weight}
+use Rattle.vault_state.specs.Limits.{most_weight}
+use Rattle.vault_state.specs.Shelf.{weight, drafts_weight}
 use Rattle.check_outs.proofs.parts.are_light.Given as goal
 
 -- the room that is left, with the drafts that are left

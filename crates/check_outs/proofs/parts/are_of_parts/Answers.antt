@@ -1,8 +1,8 @@
 use Rattle.std.proofs.Common.{◌≡◌, ◌≢◌, ◌≤◌, ◌<◌, ◌⊎◌, ℕ, true, [], refl, arith, inl, inr, length}
 use Rattle.std.proofs.lemmas.Bool.{cases_lt}
 use Rattle.std.proofs.lemmas.List.{get_or_past}
-use Rattle.vault_model.specs.Tree.{is_part}
-use Rattle.vault_model.specs.Shelf.{versions_of}
+use Rattle.vault_state.specs.Tree.{is_part}
+use Rattle.vault_state.specs.Shelf.{versions_of}
 use Rattle.check_outs.proofs.parts.are_of_parts.Goals as goal
 
 pub returns : goal.returns

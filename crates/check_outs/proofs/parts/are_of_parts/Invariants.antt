@@ -1,6 +1,6 @@
 use Rattle.std.specs.Prelude.{◌≡◌, ◌≢◌, ℕ, ◌<◌, true, []}
-use Rattle.vault_model.specs.Tree.{is_part}
-use Rattle.vault_model.specs.Shelf.{versions_of}
+use Rattle.vault_state.specs.Tree.{is_part}
+use Rattle.vault_state.specs.Shelf.{versions_of}
 use Rattle.check_outs.proofs.parts.are_of_parts.Given as goal
 
 -- the versions so far are of parts

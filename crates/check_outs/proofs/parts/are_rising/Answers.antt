@@ -1,5 +1,5 @@
 use Rattle.std.proofs.Common.{◌≡◌, ◌∙◌, ◌<◌, arith, sym, ap}
-use Rattle.vault_model.specs.Shelf.{Draft}
+use Rattle.vault_state.specs.Shelf.{Draft}
 use Rattle.check_outs.proofs.OwnDrafts.{rises_at, rising_next}
 use Rattle.check_outs.proofs.parts.are_rising.Goals as goal
 

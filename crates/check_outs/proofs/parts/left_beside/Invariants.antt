@@ -1,5 +1,5 @@
 use Rattle.std.specs.Prelude.{◌≡◌, ◌+◌, drop}
-use Rattle.vault_model.specs.Shelf.{drafts_weight}
+use Rattle.vault_state.specs.Shelf.{drafts_weight}
 use Rattle.check_outs.proofs.parts.left_beside.Given as goal
 
 -- what is left, with the drafts that are left

@@ -1,5 +1,5 @@
 use Rattle.std.proofs.Common.{◌≡◌, drop}
-use Rattle.vault_model.specs.Claims.{change_set}
+use Rattle.vault_state.specs.Claims.{change_set}
 use Rattle.check_outs.proofs.places.is_changed_by.Given as goal
 
 -- the items that are left give the answer of all

@@ -1,6 +1,6 @@
 use Rattle.std.specs.Prelude.{◌≡◌, ◌++◌, drop, length}
 use Rattle.std.specs.Option.{option_map}
-use Rattle.vault_model.specs.Vault.{AreThere}
+use Rattle.vault_state.specs.Vault.{AreThere}
 use Rattle.vault_model.specs.Step.{placed}
 use Rattle.check_outs.proofs.places.places_of.Given as goal
 

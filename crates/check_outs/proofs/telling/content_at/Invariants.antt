@@ -1,5 +1,5 @@
 use Rattle.std.proofs.Common.{◌≡◌, drop}
-use Rattle.vault_model.specs.Drafts.{content_at}
+use Rattle.vault_state.specs.Drafts.{content_at}
 use Rattle.check_outs.proofs.telling.content_at.Given as goal
 
 -- the drafts that are left give the answer of all

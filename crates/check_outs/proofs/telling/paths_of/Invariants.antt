@@ -1,6 +1,6 @@
 use Rattle.std.proofs.Common.{◌≡◌, ◌++◌, drop, map}
-use Rattle.vault_model.specs.Tree.{path_of}
-use Rattle.vault_model.specs.Shelf.{Draft}
+use Rattle.vault_state.specs.Tree.{path_of}
+use Rattle.vault_state.specs.Shelf.{Draft}
 use Rattle.check_outs.proofs.telling.paths_of.Given as goal
 
 -- the paths so far, and those of the drafts that are left

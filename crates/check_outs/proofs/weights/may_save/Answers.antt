@@ -1,8 +1,8 @@
 use Rattle.std.proofs.Common.{◌≤◌, ◌<◌, ◌+◌, ◌-◌, ◌==◌, not, rules, arith, length}
 use Rattle.std.specs.Prelude.{count_by}
-use Rattle.vault_model.specs.Limits.{most_drafts, most_weight, longest_content}
-use Rattle.vault_model.specs.Shelf.{Draft, drafts_weight}
-use Rattle.vault_model.specs.Drafts.{saved_weight}
+use Rattle.vault_state.specs.Limits.{most_drafts, most_weight, longest_content}
+use Rattle.vault_state.specs.Shelf.{Draft, drafts_weight}
+use Rattle.vault_state.specs.Drafts.{saved_weight}
 use Rattle.check_outs.specs.Typed.{saved, drafts_at}
 use Rattle.check_outs.proofs.Weighing.{own_light, own_lighter, too_many, by_weight}
 use Rattle.check_outs.proofs.weights.may_save.Goals as goal

@@ -1,5 +1,5 @@
 use Rattle.std.specs.Prelude.{◌≡◌, ◌+◌, drop}
-use Rattle.vault_model.specs.Drafts.{saved_weight}
+use Rattle.vault_state.specs.Drafts.{saved_weight}
 use Rattle.check_outs.specs.Typed.{saved}
 use Rattle.check_outs.proofs.weights.saved_weight.Given as goal
 

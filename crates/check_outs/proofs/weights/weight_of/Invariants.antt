@@ -1,5 +1,5 @@
 use Rattle.std.specs.Prelude.{◌≡◌, ◌+◌, drop}
-use Rattle.vault_model.specs.Shelf.{drafts_weight}
+use Rattle.vault_state.specs.Shelf.{drafts_weight}
 use Rattle.check_outs.proofs.weights.weight_of.Given as goal
 
 -- the sum so far, with what is left

@@ -1,7 +1,7 @@
 use Rattle.std.proofs.Common.{◌≡◌, [], ◌∷◌, ◌++◌, length, suc, arith, sym, ap, ◌∙◌, length-append}
-use Rattle.vault_model.specs.declared.place.Place.{Place}
-use Rattle.vault_model.specs.Tree.{depth}
-use Rattle.vault_model.proofs.Walks.{depth-step}
+use Rattle.vault_state.specs.declared.place.Place.{Place}
+use Rattle.vault_state.specs.Tree.{depth}
+use Rattle.vault_state.proofs.Walks.{depth-step}
 use Rattle.design_tree.proofs.Ways.{path_of-next}
 use Rattle.design_tree.proofs.walk.+path_in.Goals as goal
 

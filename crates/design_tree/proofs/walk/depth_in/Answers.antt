@@ -1,6 +1,6 @@
 use Rattle.std.proofs.Common.{◌≡◌, ◌<◌, sym, suc, arith}
-use Rattle.vault_model.specs.Tree.{depth}
-use Rattle.vault_model.proofs.Walks.{depth-step}
+use Rattle.vault_state.specs.Tree.{depth}
+use Rattle.vault_state.proofs.Walks.{depth-step}
 use Rattle.design_tree.proofs.walk.depth_in.Goals as goal
 
 pub loop-parent-preserved : goal.loop-parent-preserved

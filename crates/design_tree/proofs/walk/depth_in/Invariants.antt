@@ -1,5 +1,5 @@
 use Rattle.std.proofs.Common.{◌≡◌, ◌+◌, ◌≤◌, length}
-use Rattle.vault_model.specs.Tree.{depth}
+use Rattle.vault_state.specs.Tree.{depth}
 use Rattle.design_tree.proofs.walk.depth_in.Given as goal
 
 abbrev pub invariant-loop-parent : goal.invariant-loop-parent

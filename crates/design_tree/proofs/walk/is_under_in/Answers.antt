@@ -1,5 +1,5 @@
 use Rattle.std.proofs.Common.{◌≡◌, ◌<◌, ◌∙◌, ◌==◌, false, sym, arith}
-use Rattle.vault_model.proofs.Walks.{is_under-next}
+use Rattle.vault_state.proofs.Walks.{is_under-next}
 use Rattle.design_tree.proofs.walk.is_under_in.Goals as goal
 
 pub loop-parent-preserved : goal.loop-parent-preserved

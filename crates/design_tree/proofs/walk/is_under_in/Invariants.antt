@@ -1,5 +1,5 @@
 use Rattle.std.proofs.Common.{◌≡◌, ◌≤◌, length}
-use Rattle.vault_model.specs.Tree.{is_under}
+use Rattle.vault_state.specs.Tree.{is_under}
 use Rattle.design_tree.proofs.walk.is_under_in.Given as goal
 
 abbrev pub invariant-loop-parent : goal.invariant-loop-parent

@@ -1,6 +1,6 @@
 use Rattle.std.proofs.Common.{◌≡◌, ◌++◌, drop}
 use Rattle.std.specs.List.{filter_map}
-use Rattle.vault_model.specs.Tree.{name_of}
+use Rattle.vault_state.specs.Tree.{name_of}
 use Rattle.design_tree.proofs.walk.names_in.Given as goal
 
 -- the names so far, and those of the places that are left

@@ -1,6 +1,6 @@
 use Rattle.std.specs.Prelude.{take}
 use Rattle.std.proofs.Common.{subst}
-use Rattle.vault_model.specs.Vault.{Vault, new_vault}
+use Rattle.vault_state.specs.Vault.{Vault, new_vault}
 use Rattle.group_commit.specs.World.{new_world, history}
 use Rattle.group_commit.specs.History.{IsLegal}
 use Rattle.group_commit.specs.Runs.{run}

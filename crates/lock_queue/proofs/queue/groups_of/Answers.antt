@@ -1,7 +1,7 @@
 use Rattle.std.specs.Prelude.{◌≡◌, ◌+◌, false, take}
 use Rattle.std.proofs.Common.{arith, cond, get_or, rules}
 use Rattle.std.proofs.lemmas.List.{length-take-le, take_more}
-use Rattle.vault_model.specs.declared.ids.ClaimId.TheVariants.{Long}
+use Rattle.vault_state.specs.declared.ids.ClaimId.TheVariants.{Long}
 use Rattle.lock_modes.specs.declared.mode.Mode.TheVariants.{IS}
 use Rattle.lock_modes.specs.Groups.{with_one}
 use Rattle.lock_queue.specs.declared.queue.Request.{Request}

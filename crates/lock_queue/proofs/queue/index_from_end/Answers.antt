@@ -1,7 +1,7 @@
 use Rattle.std.specs.Prelude.{◌≡◌, ◌-◌, ◌<◌, length, drop, true, All}
 use Rattle.std.proofs.Common.{sym, ap, subst, ◌∙◌, arith}
 use Rattle.std.proofs.lemmas.Option.{get_or_from_slice_get}
-use Rattle.vault_model.specs.Claims.{same_id}
+use Rattle.vault_state.specs.Claims.{same_id}
 use Rattle.lock_queue.specs.declared.queue.Request.{Request}
 use Rattle.lock_queue.proofs.Taken.{is_its_request}
 use Rattle.lock_queue.proofs.Ends.{Fails, position_there, position_none, none_before, item_at}

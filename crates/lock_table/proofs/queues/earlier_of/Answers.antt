@@ -1,7 +1,7 @@
 use Rattle.std.specs.Prelude.{Some, position}
 use Rattle.std.proofs.Common.{ap, ◌∙◌}
 use Rattle.std.specs.Option.{option_or}
-use Rattle.vault_model.specs.Claims.{same_id}
+use Rattle.vault_state.specs.Claims.{same_id}
 use Rattle.lock_table.specs.declared.entry.Entry.{Entry}
 use Rattle.lock_table.proofs.Positions.{earlier_within}
 use Rattle.lock_table.proofs.queues.earlier_of.Goals as goal

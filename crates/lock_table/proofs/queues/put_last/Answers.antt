@@ -1,6 +1,6 @@
 use Rattle.std.specs.Prelude.{List, ◌∷◌, ◌++◌, []}
 use Rattle.std.proofs.Common.{ap, sym, ◌∙◌, subst}
-use Rattle.vault_model.specs.Limits.{most_claims}
+use Rattle.vault_state.specs.Limits.{most_claims}
 use Rattle.lock_modes.specs.declared.mode.Mode.{Mode}
 use Rattle.lock_table.specs.declared.locks.Lock.{Lock}
 use Rattle.lock_queue.specs.declared.queue.Request.{Request}

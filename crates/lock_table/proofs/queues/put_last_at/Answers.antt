@@ -1,6 +1,6 @@
 use Rattle.std.specs.Prelude.{◌<◌, ◌++◌, ◌∷◌, [], List, length}
 use Rattle.std.proofs.Common.{sym, subst}
-use Rattle.vault_model.specs.Limits.{most_claims}
+use Rattle.vault_state.specs.Limits.{most_claims}
 use Rattle.lock_queue.specs.declared.queue.Request.{Request}
 use Rattle.lock_table.specs.Queues.{requests_at, requests_of, room_of}
 use Rattle.lock_table.proofs.Putting.{roomy_there, queue_is, queue_turned}

@@ -1,7 +1,7 @@
 use Rattle.std.specs.Prelude.{◌≤◌, length}
 use Rattle.std.proofs.Common.{ap, sym, ◌∙◌, subst}
 use Rattle.std.proofs.Math.Nat.{le_refl}
-use Rattle.vault_model.specs.Limits.{most_claims}
+use Rattle.vault_state.specs.Limits.{most_claims}
 use Rattle.lock_table.proofs.Shorts.{emptied_next, emptied_all}
 use Rattle.lock_table.proofs.queues.take_short_out.Goals as goal
 

@@ -1,6 +1,6 @@
 use Rattle.std.specs.Prelude.{◌≤◌, ◌<◌, length, refl}
 use Rattle.std.proofs.Common.{ap, sym, ◌∙◌, subst}
-use Rattle.vault_model.specs.Limits.{most_claims}
+use Rattle.vault_state.specs.Limits.{most_claims}
 use Rattle.lock_queue.specs.Queue.{long_requests}
 use Rattle.lock_table.specs.Queues.{requests_of, room_at}
 use Rattle.lock_table.proofs.Putting.{past_there, no_less, queue_is, queue_turned}

@@ -2,7 +2,7 @@ use Rattle.std.specs.Prelude.{◌≡◌, ◌<◌, true, false, map, slice_get, S
 use Rattle.std.proofs.Common.{ap, sym, subst, ◌∙◌}
 use Rattle.std.specs.List.{remove}
 use Rattle.std.proofs.lemmas.Option.{same_Some}
-use Rattle.vault_model.specs.Claims.{is_short}
+use Rattle.vault_state.specs.Claims.{is_short}
 use Rattle.lock_table.specs.declared.entry.Entry.{Entry}
 use Rattle.lock_table.proofs.Blockers.{remove_map}
 use Rattle.lock_table.proofs.Putting.{read_at}

@@ -1,7 +1,7 @@
 use Rattle.std.specs.Prelude.{◌≡◌, not, List, length, map}
 use Rattle.std.proofs.Common.{ap, sym, subst, ◌∙◌, arith}
 use Rattle.std.proofs.lemmas.List.Elements.{All-filter}
-use Rattle.vault_model.specs.Claims.{is_short}
+use Rattle.vault_state.specs.Claims.{is_short}
 use Rattle.lock_table.specs.declared.entry.Entry.{Entry}
 use Rattle.lock_table.specs.declared.again.Again.TheVariants.{BehindShort}
 use Rattle.lock_table.specs.Locks.{AreApart}

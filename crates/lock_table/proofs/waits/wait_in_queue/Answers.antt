@@ -1,7 +1,7 @@
 use Rattle.std.specs.Prelude.{◌+◌, false, List, drop}
 use Rattle.std.proofs.Common.{ap, subst, get_or}
 use Rattle.std.proofs.lemmas.List.{drop_all, drop_more}
-use Rattle.vault_model.specs.declared.ids.ClaimId.TheVariants.{Long}
+use Rattle.vault_state.specs.declared.ids.ClaimId.TheVariants.{Long}
 use Rattle.lock_modes.specs.declared.mode.Mode.TheVariants.{IS}
 use Rattle.lock_queue.specs.declared.queue.Request.{Request}
 use Rattle.lock_table.specs.Queues.{is_queued_at, is_queued_in, waits_where}

@@ -1,5 +1,5 @@
 use Rattle.std.specs.Prelude.{◌≡◌, Option, map, drop, length}
-use Rattle.vault_model.specs.declared.ids.ClaimId.{ClaimId}
+use Rattle.vault_state.specs.declared.ids.ClaimId.{ClaimId}
 use Rattle.lock_table.specs.declared.entry.Entry.{Entry}
 use Rattle.lock_table.specs.Queues.{is_queued_in, waits_where}
 use Rattle.lock_table.proofs.Waiting.{IsWaiting}

@@ -1,6 +1,6 @@
 use Rattle.std.specs.Prelude.{◌≡◌, ◌+◌, suc, ℕ, List}
 use Rattle.std.proofs.Common.{sym, subst, ◌∙◌, arith}
-use Rattle.vault_model.specs.declared.claims.Claim.{Claim}
+use Rattle.vault_state.specs.declared.claims.Claim.{Claim}
 use Rattle.lock_table.specs.Tables.{IsTableOf, entries_without}
 use Rattle.long_locks.specs.Lines.{ends, left_behind}
 use Rattle.long_locks.proofs.Endings.{behind_none, behind_kept, behind_taken}

@@ -1,5 +1,5 @@
 use Rattle.std.proofs.Common.{List}
-use Rattle.vault_model.specs.declared.place.Place.{Place}
+use Rattle.vault_state.specs.declared.place.Place.{Place}
 use Rattle.lock_table.specs.Tables.{IsTableOf}
 use Rattle.long_locks.specs.Lines.{left_behind}
 use Rattle.long_locks.proofs.ending.release_each.Given as goal

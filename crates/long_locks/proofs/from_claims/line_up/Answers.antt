@@ -2,9 +2,9 @@ use Rattle.std.specs.Prelude.{List, All}
 use Rattle.std.proofs.Common.{sym, subst, ◌∙◌}
 use Rattle.std.proofs.lemmas.List.{take_all}
 use Rattle.std.proofs.lemmas.List.Elements.{All-take}
-use Rattle.vault_model.specs.declared.claims.Claim.{Claim}
-use Rattle.vault_model.specs.Vault.{AreThere}
-use Rattle.vault_model.specs.Limits.{most_claims}
+use Rattle.vault_state.specs.declared.claims.Claim.{Claim}
+use Rattle.vault_state.specs.Vault.{AreThere}
+use Rattle.vault_state.specs.Limits.{most_claims}
 use Rattle.lock_table.specs.Tables.{IsTableOf}
 use Rattle.long_locks.proofs.Apart.{none_before}
 use Rattle.long_locks.proofs.LinesMade.{few_taken, taken_next}

@@ -4,7 +4,7 @@ use Rattle.lock_table.specs.Tables.{extension_by, held_in_way}
 use Rattle.lock_table.proofs.Lines.{standing_law}
 use Rattle.long_locks.specs.Lines.{in_way_of}
 use Rattle.long_locks.proofs.Extensions.{locks_read, in_way_read, is_done, is_in_way, zip_first}
-use Rattle.vault_model.proofs.Stays.{held_there}
+use Rattle.vault_state.proofs.Stays.{held_there}
 use Rattle.long_locks.proofs.line.extend.Goals as goal
 
 on_error : {T E : Type 0} (P : Type 0) (r : Result T E) → P → OnErr r P

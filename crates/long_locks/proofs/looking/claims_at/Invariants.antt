@@ -1,5 +1,5 @@
 use Rattle.std.proofs.Common.{◌≡◌, take}
-use Rattle.vault_model.specs.Claims.{claims_at}
+use Rattle.vault_state.specs.Claims.{claims_at}
 use Rattle.long_locks.proofs.looking.claims_at.Given as goal
 
 -- the ids so far are those of the first claims

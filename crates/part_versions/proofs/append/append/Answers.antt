@@ -1,6 +1,6 @@
 use Rattle.std.proofs.Common.{◌≡◌, ◌-◌, ◌<◌, ◌≤◌, [], ◌∷◌, ◌++◌, length, replicate, rules, arith}
 use Rattle.std.proofs.lemmas.Result.{on_ok_weaker}
-use Rattle.vault_model.specs.Shelf.{content_weight}
+use Rattle.vault_state.specs.Shelf.{content_weight}
 use Rattle.part_versions.proofs.Shelving.{put_inside, put_past, light_at}
 use Rattle.part_versions.proofs.append.append.Goals as goal
 

@@ -1,6 +1,6 @@
 use Rattle.std.proofs.Common.{◌≡◌, ℕ, ◌<◌, List, length, take, get_or, rules, arith, ap, sym, subst, ◌∙◌}
 use Rattle.std.specs.Prelude.{All}
-use Rattle.vault_model.specs.Shelf.{Draft, shelved, shelved_all, content_weight, weight}
+use Rattle.vault_state.specs.Shelf.{Draft, shelved, shelved_all, content_weight, weight}
 use Rattle.part_versions.specs.Taken.{taken_all}
 use Rattle.part_versions.proofs.Shelving.{weight-more, shelved_all-more, places_there, taken_back}
 use Rattle.part_versions.proofs.append.append_each.Goals as goal

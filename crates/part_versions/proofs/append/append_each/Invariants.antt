@@ -1,5 +1,5 @@
 use Rattle.std.specs.Prelude.{◌≡◌, take}
-use Rattle.vault_model.specs.Shelf.{shelved_all}
+use Rattle.vault_state.specs.Shelf.{shelved_all}
 use Rattle.part_versions.proofs.append.append_each.Given as goal
 
 abbrev pub invariant-loop-done : goal.invariant-loop-done

@@ -1,8 +1,8 @@
 use Rattle.std.proofs.Common.{◌≡◌, ◌≤◌, length, ap, sym, ◌∙◌, arith}
 use Rattle.std.specs.Prelude.{true, nat_le, ◌-◌}
-use Rattle.vault_model.specs.Shelf.{versions_of}
-use Rattle.vault_model.specs.Limits.{most_versions}
-use Rattle.vault_model.proofs.Shelves.{few_at, le_true}
+use Rattle.vault_state.specs.Shelf.{versions_of}
+use Rattle.vault_state.specs.Limits.{most_versions}
+use Rattle.vault_state.proofs.Shelves.{few_at, le_true}
 use Rattle.part_versions.specs.Rooms.{count_of}
 use Rattle.part_versions.proofs.Rooms.{room_for_as_many, room_by_count}
 use Rattle.part_versions.proofs.limits.has_room.Goals as goal

@@ -1,7 +1,7 @@
 use Rattle.std.specs.Prelude.{◌≡◌, ◌+◌, ◌≤◌, nat_le, true, length, take}
 use Rattle.std.specs.List.{list_all}
-use Rattle.vault_model.specs.Shelf.{Draft, drafts_weight}
-use Rattle.vault_model.specs.Limits.{longest_content, most_weight}
+use Rattle.vault_state.specs.Shelf.{Draft, drafts_weight}
+use Rattle.vault_state.specs.Limits.{longest_content, most_weight}
 use Rattle.part_versions.proofs.limits.weight_with.Given as goal
 
 abbrev pub invariant-loop-draft : goal.invariant-loop-draft

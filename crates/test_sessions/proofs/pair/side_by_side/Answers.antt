@@ -1,7 +1,7 @@
 use denote.Param.{param, copied}
 use denote.Param.Send.{sendable}
 use Rattle.std.proofs.Crossing.{crosses}
-use Rattle.vault_model.proofs.Sends.{fields}
+use Rattle.vault_state.proofs.Sends.{fields}
 use Rattle.vault_sessions.proofs.Sends.{share_send, shared_sync}
 use Rattle.test_sessions.proofs.pair.side_by_side.Goals as goal
 

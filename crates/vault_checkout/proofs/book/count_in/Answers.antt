@@ -1,5 +1,5 @@
 use Rattle.std.proofs.lemmas.List.Edits.{map_over_more}
-use Rattle.vault_model.specs.Vault.{one_more}
+use Rattle.vault_state.specs.Vault.{one_more}
 use Rattle.vault_checkout.proofs.book.count_in.Goals as goal
 
 pub loop-session-preserved : goal.loop-session-preserved

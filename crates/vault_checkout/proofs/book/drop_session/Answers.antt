@@ -1,7 +1,7 @@
 use Rattle.std.specs.Prelude.{not, ◌==◌}
 use Rattle.std.proofs.Common.{rules}
 use Rattle.std.proofs.lemmas.Fn.{filter_same}
-use Rattle.vault_model.specs.declared.session.Session.{Session}
+use Rattle.vault_state.specs.declared.session.Session.{Session}
 use Rattle.vault_checkout.proofs.book.drop_session.Goals as goal
 
 pub returns : goal.returns

@@ -1,6 +1,6 @@
 use Rattle.std.specs.Prelude.{◌≡◌, ◌++◌, List, take, drop, map}
-use Rattle.vault_model.specs.declared.place.Place.{Place}
-use Rattle.vault_model.specs.Tree.{IsTree}
+use Rattle.vault_state.specs.declared.place.Place.{Place}
+use Rattle.vault_state.specs.Tree.{IsTree}
 use Rattle.long_locks.specs.Lines.{IsGrownFrom}
 use Rattle.check_outs.specs.Typed.{granted}
 use Rattle.vault_checkout.proofs.granting.grant_held.Given as goal

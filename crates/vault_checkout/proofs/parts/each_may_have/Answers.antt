@@ -1,8 +1,8 @@
 use Rattle.std.proofs.Common.{◌≡◌, ◌<◌, ◌≤◌, ◌∙◌, [], ap, arith, get_or, length, refl, sym}
 use Rattle.std.proofs.Math.ListN.{drop_of_length-le}
 use Rattle.std.proofs.lemmas.List.Elements.{All-get_or, All-take}
-use Rattle.vault_model.specs.Vault.{AreThere}
-use Rattle.vault_model.specs.declared.claims.Claim.{Claim}
+use Rattle.vault_state.specs.Vault.{AreThere}
+use Rattle.vault_state.specs.declared.claims.Claim.{Claim}
 use Rattle.check_outs.proofs.PutIn.{match_length}
 use Rattle.vault_checkout.proofs.Fitting.{none_left, each_at}
 use Rattle.vault_checkout.proofs.PartsMade.{match_of}

@@ -1,5 +1,5 @@
 use Rattle.std.specs.Prelude.{◌≡◌, drop}
-use Rattle.vault_model.specs.Claims.{blocker}
+use Rattle.vault_state.specs.Claims.{blocker}
 use Rattle.vault_checkout.proofs.parts.is_apart.Given as goal
 
 -- what is left decides

@@ -1,5 +1,5 @@
 use Rattle.std.proofs.Common.{◌≤◌, ◌∙◌, arith, length, refl, sym}
-use Rattle.vault_model.specs.Limits.{most_drafts}
+use Rattle.vault_state.specs.Limits.{most_drafts}
 use Rattle.vault_checkout.proofs.Fitting.{is_some_list, may_have_none}
 use Rattle.vault_checkout.proofs.parts.may_have.Goals.{then-drafts-gt-MAX_DRAFTS-via-then-drafts-gt-MAX_DRAFTS, then-drafts-gt-MAX_DRAFTS-via-else-drafts-gt-MAX_DRAFTS+then-not-are_rising}
 use Rattle.vault_checkout.proofs.parts.may_have.Goals as goal

@@ -1,5 +1,5 @@
 use Rattle.std.proofs.Common.{◌≡◌, ◌≤◌, ℕ, subst, arith}
-use Rattle.vault_model.specs.Limits.{most_claims}
+use Rattle.vault_state.specs.Limits.{most_claims}
 use Rattle.vault_format.proofs.Refusals.{none_refused, passed}
 use Rattle.vault_format.proofs.ClaimsRead.{AreClaimsSoFar, no_claims_yet, one_claim_more, all_claims, not_all_claims}
 use Rattle.vault_format.proofs.claims.read_claims.Goals as goal

@@ -1,5 +1,5 @@
 use Rattle.std.proofs.Common.{◌≡◌, ◌≤◌, ℕ, subst, arith}
-use Rattle.vault_model.specs.Limits.{most_drafts}
+use Rattle.vault_state.specs.Limits.{most_drafts}
 use Rattle.vault_format.proofs.Refusals.{none_refused, passed}
 use Rattle.vault_format.proofs.DraftsRead.{AreDraftsSoFar, no_drafts_yet, one_draft_more, all_drafts, not_all_drafts}
 use Rattle.vault_format.proofs.claims.read_drafts.Goals as goal

@@ -1,7 +1,7 @@
 use Rattle.std.proofs.Common.{◌≤◌, length, sym, subst, append-nil}
 use Rattle.std.specs.List.{flat_map}
-use Rattle.vault_model.specs.Limits.{longest_content}
-use Rattle.vault_model.specs.Shelf.{Draft}
+use Rattle.vault_state.specs.Limits.{longest_content}
+use Rattle.vault_state.specs.Shelf.{Draft}
 use Rattle.vault_format.specs.Snapshot.{draft_bytes}
 use Rattle.vault_format.proofs.Adding.{adds_more, adds_all, adds_nothing}
 use Rattle.vault_format.proofs.fields.put_each_draft.Goals as goal

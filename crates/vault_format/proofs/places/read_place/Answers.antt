@@ -1,6 +1,6 @@
 use Rattle.std.proofs.Common.{◌≡◌, ℕ, suc, length, sym, ◌∙◌, ap, subst, arith}
 use Rattle.std.proofs.lemmas.Result.{IfOk-weaker}
-use Rattle.vault_model.specs.Tree.{is_part}
+use Rattle.vault_state.specs.Tree.{is_part}
 use Rattle.vault_format.specs.Places.{AreVersionsRead, BeginsWithNoVersions}
 use Rattle.vault_format.proofs.Refusals.{passed}
 use Rattle.vault_format.proofs.PlaceRead.{nameless, no_part_read, part_read, versionless}

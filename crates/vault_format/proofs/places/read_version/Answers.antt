@@ -1,6 +1,6 @@
 use Rattle.std.proofs.Common.{◌∙◌, refl, arith}
 use Rattle.std.specs.Prelude.{[], ◌∷◌}
-use Rattle.vault_model.specs.Shelf.{draft_at}
+use Rattle.vault_state.specs.Shelf.{draft_at}
 use Rattle.vault_format.proofs.VersionsRead.{no_content, no_shelving, version_read}
 use Rattle.vault_format.proofs.Refusals.{none_refused}
 use Rattle.vault_format.proofs.places.read_version.Goals as goal

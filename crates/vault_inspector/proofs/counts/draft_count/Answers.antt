@@ -1,5 +1,5 @@
 use Rattle.std.proofs.Common.{arith}
-use Rattle.vault_model.specs.declared.claims.Claim.{Claim}
+use Rattle.vault_state.specs.declared.claims.Claim.{Claim}
 use Rattle.vault_inspector.specs.Counts.{own_drafts}
 use Rattle.vault_inspector.proofs.Counting.{sum_next}
 use Rattle.vault_inspector.proofs.counts.draft_count.Goals as goal

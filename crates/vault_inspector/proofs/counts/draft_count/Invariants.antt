@@ -1,6 +1,6 @@
 use Rattle.std.proofs.Common.{◌≡◌, ◌*◌, ◌^◌, ◌≤◌, take}
 use Rattle.std.specs.Prelude.{sum_by}
-use Rattle.vault_model.specs.declared.claims.Claim.{Claim}
+use Rattle.vault_state.specs.declared.claims.Claim.{Claim}
 use Rattle.vault_inspector.specs.Counts.{own_drafts}
 use Rattle.vault_inspector.proofs.counts.draft_count.Given as goal
 

@@ -1,6 +1,6 @@
 use Rattle.std.proofs.Common.{◌≡◌, ◌+◌, arith, length}
 use Rattle.std.proofs.lemmas.List.FromFn.{sum_by-map-range_with_len_more}
-use Rattle.vault_model.specs.Shelf.{versions_of}
+use Rattle.vault_state.specs.Shelf.{versions_of}
 use Rattle.vault_inspector.proofs.counts.version_count.Goals as goal
 
 pub loop-place-preserved : goal.loop-place-preserved

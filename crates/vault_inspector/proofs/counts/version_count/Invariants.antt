@@ -1,7 +1,7 @@
 use Rattle.std.proofs.Common.{◌≡◌, ◌*◌, ◌^◌, ◌≤◌, length, map}
 use Rattle.std.specs.Prelude.{sum_by}
 use Rattle.std.specs.List.{range_with_len}
-use Rattle.vault_model.specs.Shelf.{versions_of}
+use Rattle.vault_state.specs.Shelf.{versions_of}
 use Rattle.vault_inspector.proofs.counts.version_count.Given as goal
 
 abbrev pub invariant-loop-place : goal.invariant-loop-place

@@ -1,6 +1,6 @@
 use Rattle.std.proofs.Common.{◌≡◌, ap, arith, length, take}
 use Rattle.std.specs.Prelude.{sum_by}
-use Rattle.vault_model.specs.declared.claims.Claim.{Claim}
+use Rattle.vault_state.specs.declared.claims.Claim.{Claim}
 use Rattle.vault_inspector.specs.Figures.{own_weight}
 use Rattle.vault_inspector.proofs.Counting.{sum_next}
 use Rattle.vault_inspector.proofs.Weighing.{light_so_far, light_at_end}

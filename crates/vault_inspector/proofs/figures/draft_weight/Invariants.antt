@@ -1,6 +1,6 @@
 use Rattle.std.proofs.Common.{◌≡◌, take}
 use Rattle.std.specs.Prelude.{sum_by}
-use Rattle.vault_model.specs.declared.claims.Claim.{Claim}
+use Rattle.vault_state.specs.declared.claims.Claim.{Claim}
 use Rattle.vault_inspector.specs.Figures.{own_weight}
 use Rattle.vault_inspector.proofs.figures.draft_weight.Given as goal
 

@@ -1,6 +1,6 @@
 use Rattle.std.proofs.Common.{◌≡◌, ℕ, Bool, cond, arith, sym, ap, ◌∙◌}
-use Rattle.vault_model.specs.declared.claims.Claim.{Claim}
-use Rattle.vault_model.specs.Claims.{standing_of}
+use Rattle.vault_state.specs.declared.claims.Claim.{Claim}
+use Rattle.vault_state.specs.Claims.{standing_of}
 use Rattle.vault_inspector.specs.Figures.{stands}
 use Rattle.vault_inspector.proofs.Counting.{count_next}
 use Rattle.vault_inspector.proofs.figures.standing_count.Goals.{then-stands, else-stands}

@@ -1,7 +1,7 @@
 use Rattle.std.proofs.Common.{◌≡◌, ◌≤◌, take}
 use Rattle.std.specs.Prelude.{count_by}
-use Rattle.vault_model.specs.declared.claims.Claim.{Claim}
-use Rattle.vault_model.specs.Claims.{standing_of}
+use Rattle.vault_state.specs.declared.claims.Claim.{Claim}
+use Rattle.vault_state.specs.Claims.{standing_of}
 use Rattle.vault_inspector.specs.Figures.{stands}
 use Rattle.vault_inspector.proofs.figures.standing_count.Given as goal
 

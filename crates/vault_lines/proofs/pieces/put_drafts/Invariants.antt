@@ -1,6 +1,6 @@
 use Rattle.std.proofs.Common.{◌≡◌, ◌++◌, ◌∷◌, take}
 use Rattle.std.specs.List.{flat_map}
-use Rattle.vault_model.specs.Path.{path_text}
+use Rattle.vault_state.specs.Path.{path_text}
 use Rattle.vault_lines.proofs.pieces.put_drafts.Given as goal
 
 abbrev pub invariant-loop-path : goal.invariant-loop-path

@@ -1,5 +1,5 @@
 use Rattle.std.proofs.Common.{◌≡◌, ◌∙◌, [], map, Some, sym}
-use Rattle.vault_model.specs.Path.{path_in}
+use Rattle.vault_state.specs.Path.{path_in}
 use Rattle.vault_model.specs.declared.commands.Command.TheVariants as commands
 use Rattle.vault_lines.specs.declared.keyword.Keyword.TheVariants as keywords
 use Rattle.vault_lines.specs.Reading.{◌>>=◌}

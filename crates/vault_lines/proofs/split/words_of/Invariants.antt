@@ -1,8 +1,8 @@
 use Rattle.std.proofs.Common.{◌≡◌, ◌==◌, ◌++◌, map}
 use Rattle.std.specs.List.{slice_split}
 use Rattle.std.specs.Option.{option_copied}
-use Rattle.vault_model.specs.Splits.{parts_behind}
-use Rattle.vault_model.proofs.FirstPart.{bytes_left}
+use Rattle.vault_state.specs.Splits.{parts_behind}
+use Rattle.vault_state.proofs.FirstPart.{bytes_left}
 use Rattle.vault_lines.proofs.split.words_of.Given as goal
 
 abbrev pub invariant-loop-rest : goal.invariant-loop-rest

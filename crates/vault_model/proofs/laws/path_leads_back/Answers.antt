@@ -1,4 +1,4 @@
-use Rattle.vault_model.proofs.Ways.{path_leads_back}
+use Rattle.vault_model.proofs.WaysBack.{path_leads_back}
 use Rattle.vault_model.proofs.laws.path_leads_back.Goals as goal
 
 pub returns : goal.returns

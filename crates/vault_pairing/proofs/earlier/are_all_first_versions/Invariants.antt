@@ -1,5 +1,5 @@
 use Rattle.std.proofs.Common.{ℕ, ◌<◌}
-use Rattle.vault_model.specs.Shelf.{versions_of}
+use Rattle.vault_state.specs.Shelf.{versions_of}
 use Rattle.vault_store.specs.Earlier.{BeginsWith}
 use Rattle.vault_pairing.proofs.earlier.are_all_first_versions.Given as goal
 

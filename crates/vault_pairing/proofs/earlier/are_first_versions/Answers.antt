@@ -1,5 +1,5 @@
 use Rattle.std.proofs.Common.{arith}
-use Rattle.vault_model.specs.Shelf.{versions_of}
+use Rattle.vault_state.specs.Shelf.{versions_of}
 use Rattle.vault_store.proofs.Begun.{all_same}
 use Rattle.vault_pairing.proofs.earlier.are_first_versions.Goals as goal
 

@@ -1,5 +1,5 @@
 use Rattle.std.proofs.Common.{◌≡◌, ℕ, ◌<◌, slice_get}
-use Rattle.vault_model.specs.Shelf.{versions_of}
+use Rattle.vault_state.specs.Shelf.{versions_of}
 use Rattle.vault_pairing.proofs.earlier.are_first_versions.Given as goal
 
 abbrev pub invariant-loop-index : goal.invariant-loop-index

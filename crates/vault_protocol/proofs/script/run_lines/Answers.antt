@@ -2,7 +2,7 @@ use Rattle.std.proofs.Common.{◌∙◌, ap, sym}
 use Rattle.std.specs.Option.{option_copied}
 use Rattle.std.specs.List.{slice_split}
 use Rattle.std.specs.Prelude.{◌==◌}
-use Rattle.vault_model.specs.Splits.{parts_behind}
+use Rattle.vault_state.specs.Splits.{parts_behind}
 use Rattle.vault_protocol.specs.Script.{printed}
 use Rattle.vault_protocol.proofs.Written.{written_more, written_all, written_prefix, written_cut, on_err_since, on_ok_then, on_err_then}
 use Rattle.vault_protocol.proofs.LineByLine.{written_start, written_line, written_end, fewer_left, no_front}

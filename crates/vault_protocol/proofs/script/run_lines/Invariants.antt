@@ -1,8 +1,8 @@
 use Rattle.std.specs.Option.{option_copied}
-use Rattle.vault_model.specs.Splits.{parts_behind}
+use Rattle.vault_state.specs.Splits.{parts_behind}
 use Rattle.vault_protocol.specs.Script.{output, printed}
 use Rattle.vault_protocol.proofs.Written.{Written}
-use Rattle.vault_model.proofs.FirstPart.{bytes_left}
+use Rattle.vault_state.proofs.FirstPart.{bytes_left}
 use Rattle.vault_protocol.proofs.script.run_lines.Given as goal
 
 abbrev pub invariant-loop-rest : goal.invariant-loop-rest

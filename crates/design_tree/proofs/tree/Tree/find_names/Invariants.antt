@@ -1,5 +1,5 @@
 use Rattle.std.proofs.Common.{◌≡◌, ◌≤◌, length, drop}
-use Rattle.vault_model.specs.Tree.{find_below, find_place}
+use Rattle.vault_state.specs.Tree.{find_below, find_place}
 use Rattle.design_tree.proofs.tree.Tree.find_names.Given as goal
 
 -- the names that are left lead from here to where all lead

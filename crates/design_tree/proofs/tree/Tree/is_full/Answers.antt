@@ -1,6 +1,6 @@
 use Rattle.std.proofs.Common.{◌≡◌, ◌+◌, false, nat_le, ◌||◌, length, arith, sym, ap, ◌∙◌}
 use Rattle.std.proofs.lemmas.Bool.Decides.{nat_tests}
-use Rattle.vault_model.specs.Tree.{children_count}
+use Rattle.vault_state.specs.Tree.{children_count}
 use Rattle.design_tree.proofs.Children.{length-children_of}
 use Rattle.design_tree.proofs.tree.Tree.is_full.Goals as goal
 

@@ -1,6 +1,6 @@
 use Rattle.std.proofs.Common.{sym, ap, subst, true, ◌≡◌, ◌∙◌}
-use Rattle.vault_model.specs.Tree.{kind_at, kind_under, may_have}
-use Rattle.vault_model.proofs.Depths.{may_have_made}
+use Rattle.vault_state.specs.Tree.{kind_at, kind_under, may_have}
+use Rattle.vault_state.proofs.Depths.{may_have_made}
 use Rattle.design_tree.proofs.tree.Tree.kind_under.Goals as goal
 
 pub returns-clause-may_have : goal.returns-clause-may_have

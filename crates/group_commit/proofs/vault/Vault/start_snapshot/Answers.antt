@@ -1,6 +1,6 @@
 use Rattle.std.proofs.Common.{◌≡◌, ◌∙◌, ap, sym, subst}
 use Rattle.std.specs.Prelude.{Ok}
-use Rattle.vault_model.specs.Vault.{durable}
+use Rattle.vault_state.specs.Vault.{durable}
 use Rattle.group_commit.specs.View.{length_of}
 use Rattle.group_commit.specs.Seen.{VaultSeen, state_of}
 use Rattle.group_commit.specs.Inside.{seen_of}

@@ -1,7 +1,7 @@
 use Rattle.std.specs.Prelude.{◌≡◌, ◌<◌, ◌≤◌, length, position, None, set, false, refl}
 use Rattle.std.proofs.Common.{sym, ap, subst, ◌∙◌, arith, rules}
 use Rattle.std.specs.Vec.{vec_capacity}
-use Rattle.vault_model.specs.Limits.{most_claims}
+use Rattle.vault_state.specs.Limits.{most_claims}
 use Rattle.lock_modes.specs.Groups.{Counts, count_of, group_of}
 use Rattle.lock_queue.specs.Queue.{QueueSeen, request_modes, held_requests, restood}
 use Rattle.lock_queue.proofs.Counts.{size_held_is}

@@ -1,7 +1,7 @@
 use Rattle.std.specs.Prelude.{not}
 use Rattle.std.proofs.Common.{ap, ◌∙◌, rules}
 use Rattle.std.proofs.lemmas.Fn.{filter_same}
-use Rattle.vault_model.specs.Claims.{is_short}
+use Rattle.vault_state.specs.Claims.{is_short}
 use Rattle.lock_queue.specs.declared.queue.Request.{Request}
 use Rattle.lock_queue.specs.Queue.{QueueSeen, long_requests}
 use Rattle.lock_queue.proofs.queue.PlaceQueue.take_short_out.Goals as goal

@@ -1,8 +1,8 @@
 use Rattle.std.specs.Prelude.{◌≡◌, ◌<◌, List, ◌∷◌, ◌++◌, [], length, map, true, is_none}
 use Rattle.std.specs.List.{IsDistinct}
 use Rattle.std.proofs.Common.{ap, sym, subst, ◌∙◌, arith}
-use Rattle.vault_model.specs.Limits.{most_claims}
-use Rattle.vault_model.specs.Claims.{same_id, standing_by}
+use Rattle.vault_state.specs.Limits.{most_claims}
+use Rattle.vault_state.specs.Claims.{same_id, standing_by}
 use Rattle.lock_table.specs.declared.entry.Entry.{Entry}
 use Rattle.lock_table.specs.Tables.{IsTable, first_in_way, is_held_in}
 use Rattle.lock_queue.specs.Queue.{QueueSeen}

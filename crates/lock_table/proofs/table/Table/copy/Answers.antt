@@ -3,7 +3,7 @@ use Rattle.std.proofs.Common.{ap, sym, subst, ◌∙◌, arith, rules}
 use Rattle.std.proofs.Math.Nat.{le_refl}
 use Rattle.std.proofs.lemmas.List.{take_all}
 use Rattle.std.proofs.lemmas.List.Elements.{same_from_all_zip}
-use Rattle.vault_model.specs.Limits.{most_claims}
+use Rattle.vault_state.specs.Limits.{most_claims}
 use Rattle.lock_table.specs.declared.entry.Entry.{Entry}
 use Rattle.lock_queue.specs.declared.queue.Request.{Request}
 use Rattle.lock_table.specs.declared.locks.Lock.{Lock}

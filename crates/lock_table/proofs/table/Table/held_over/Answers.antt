@@ -1,7 +1,7 @@
 use Rattle.std.specs.Prelude.{◌≡◌, List, None, slice_get}
 use Rattle.std.proofs.Common.{ap, sym, subst, ◌∙◌, arith, rules}
 use Rattle.std.specs.Option.{option_map, option_and_then}
-use Rattle.vault_model.specs.Tree.{parent_of}
+use Rattle.vault_state.specs.Tree.{parent_of}
 use Rattle.lock_table.specs.declared.entry.Entry.{Entry}
 use Rattle.lock_table.specs.Tables.{IsTable}
 use Rattle.lock_queue.specs.Queue.{QueueSeen, first_of, is_cover}

@@ -7,7 +7,7 @@ use Rattle.lock_table.specs.Tables.{standing_in, held_in_way}
 use Rattle.lock_queue.specs.Queue.{QueueSeen, IsOwn}
 use Rattle.lock_table.specs.Queues.{requests_at}
 use Rattle.lock_table.specs.Locks.{mode_at}
-use Rattle.vault_model.specs.declared.claims.Standing.TheVariants.{Held}
+use Rattle.vault_state.specs.declared.claims.Standing.TheVariants.{Held}
 use Rattle.lock_table.proofs.Removals.{own_index, index_read}
 use Rattle.lock_table.proofs.TablesKept.{has_entry}
 use Rattle.lock_table.proofs.Putting.{read_at}

@@ -1,6 +1,6 @@
 use Rattle.std.proofs.Common.{◌≡◌, true, is_some, sym, ap, subst, ◌∙◌}
 use Rattle.std.specs.Map.{values_of}
-use Rattle.vault_model.specs.Claims.{claim_of}
+use Rattle.vault_state.specs.Claims.{claim_of}
 use Rattle.long_locks.specs.Keyed.{ClaimsSeen}
 use Rattle.long_locks.proofs.Keyed.{id_eq, id_eq_is, found, front_keyed, front_values}
 use Rattle.long_locks.proofs.claims.Claims.put_first.Goals as goal

@@ -1,7 +1,7 @@
 use Rattle.std.proofs.Common.{◌≡◌, None, sym, ap, subst, ◌∙◌}
 use Rattle.std.specs.Map.{values_of, lookup}
 use Rattle.indexmap.proofs.CallerLemmas.{insert_entry-new}
-use Rattle.vault_model.specs.Claims.{claim_of}
+use Rattle.vault_state.specs.Claims.{claim_of}
 use Rattle.long_locks.specs.Keyed.{ClaimsSeen, AreKeyed}
 use Rattle.long_locks.proofs.Keyed.{id_eq, id_eq_is, found, keyed_pushed, values_pushed}
 use Rattle.long_locks.proofs.claims.Claims.put_last.Goals as goal

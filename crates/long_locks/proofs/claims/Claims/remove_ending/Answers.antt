@@ -2,7 +2,7 @@ use Rattle.std.specs.Prelude.{not}
 use Rattle.std.proofs.Common.{ap, ◌∙◌, rules}
 use Rattle.std.specs.Map.{values_of}
 use Rattle.indexmap.proofs.CallerLemmas.{filter-RetainsPairs}
-use Rattle.vault_model.specs.declared.claims.Claim.{Claim}
+use Rattle.vault_state.specs.declared.claims.Claim.{Claim}
 use Rattle.long_locks.specs.Lines.{ends}
 use Rattle.long_locks.proofs.Keyed.{keyed_kept, values_kept}
 use Rattle.long_locks.proofs.claims.Claims.remove_ending.Goals as goal

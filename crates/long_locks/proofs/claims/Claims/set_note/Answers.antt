@@ -1,5 +1,5 @@
 use Rattle.std.proofs.Common.{refl, sym}
-use Rattle.vault_model.specs.Claims.{noted_as}
+use Rattle.vault_state.specs.Claims.{noted_as}
 use Rattle.long_locks.proofs.Keyed.{id_eq, id_eq_is, nothing_changed, changed_values, changed_keyed}
 use Rattle.long_locks.proofs.claims.Claims.set_note.Goals as goal
 

@@ -1,5 +1,5 @@
 use Rattle.std.proofs.Common.{ℕ, ◌+◌, List, [], ◌∷◌, ◌++◌, ap, subst, sym, ◌∙◌}
-use Rattle.vault_model.specs.Claims.{new_check_out}
+use Rattle.vault_state.specs.Claims.{new_check_out}
 use Rattle.long_locks.specs.Lines.{LineSeen, IsGrownFrom}
 use Rattle.long_locks.proofs.LinesKept.{there_grown, weighed_grown, new_long, line_long}
 use Rattle.long_locks.proofs.line.Line.ask_long.Goals as goal

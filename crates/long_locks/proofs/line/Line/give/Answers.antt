@@ -1,6 +1,6 @@
 use Rattle.std.proofs.Common.{refl}
-use Rattle.vault_model.specs.Claims.{given_to}
-use Rattle.vault_model.specs.declared.ids.ClaimId.TheVariants.{Long}
+use Rattle.vault_state.specs.Claims.{given_to}
+use Rattle.vault_state.specs.declared.ids.ClaimId.TheVariants.{Long}
 use Rattle.long_locks.proofs.LinesKept.{line_changed}
 use Rattle.long_locks.proofs.line.Line.give.Goals as goal
 

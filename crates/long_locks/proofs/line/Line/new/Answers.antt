@@ -1,9 +1,9 @@
 use Rattle.std.specs.Prelude.{◌≡◌, []}
 use Rattle.std.proofs.Common.{◌∙◌}
 use Rattle.std.proofs.lemmas.List.Elements.{All-nil}
-use Rattle.vault_model.specs.declared.claims.Claim.{Claim}
-use Rattle.vault_model.specs.Vault.{AreThere}
-use Rattle.vault_model.proofs.Kept.{tree_new}
+use Rattle.vault_state.specs.declared.claims.Claim.{Claim}
+use Rattle.vault_state.specs.Vault.{AreThere}
+use Rattle.vault_state.proofs.NewTree.{tree_new}
 use Rattle.long_locks.specs.Lines.{IsNumbered}
 use Rattle.long_locks.proofs.line.Line.new.Goals as goal
 

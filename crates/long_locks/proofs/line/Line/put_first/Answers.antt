@@ -1,6 +1,6 @@
 use Rattle.std.specs.Prelude.{◌≡◌, None, true, is_some}
 use Rattle.std.proofs.Common.{subst, sym}
-use Rattle.vault_model.specs.Claims.{claim_of}
+use Rattle.vault_state.specs.Claims.{claim_of}
 use Rattle.lock_table.specs.Tables.{AreLocksOf}
 use Rattle.long_locks.specs.Lines.{LineSeen, IsGrownFrom}
 use Rattle.long_locks.proofs.LinesKept.{weighed_grown}

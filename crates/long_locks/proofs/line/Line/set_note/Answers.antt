@@ -1,6 +1,6 @@
 use Rattle.std.proofs.Common.{refl}
-use Rattle.vault_model.specs.Claims.{noted_as}
-use Rattle.vault_model.specs.declared.ids.ClaimId.TheVariants.{Long}
+use Rattle.vault_state.specs.Claims.{noted_as}
+use Rattle.vault_state.specs.declared.ids.ClaimId.TheVariants.{Long}
 use Rattle.long_locks.proofs.LinesKept.{line_changed}
 use Rattle.long_locks.proofs.line.Line.set_note.Goals as goal
 

@@ -1,7 +1,7 @@
 use Rattle.std.proofs.Common.{◌≡◌, ◌+◌, ◌<◌, ◌≤◌, [], ◌∷◌, ◌++◌, length, rules, arith, ap, sym, subst, ◌∙◌, List, ℕ, append_assoc}
 use Rattle.std.specs.Int.{w16, to_be_bytes}
 use Rattle.std.specs.Vec.{vec_len}
-use Rattle.vault_model.specs.Shelf.{content_weight, versions_weight}
+use Rattle.vault_state.specs.Shelf.{content_weight, versions_weight}
 use Rattle.part_versions.specs.Cuts.{spelled, contents_of, IsCut}
 use Rattle.part_versions.proofs.Cuts.{length-bytes, cut-push, contents_of-push}
 use Rattle.part_versions.proofs.part.Part.push.Goals as goal

@@ -1,6 +1,6 @@
 use Rattle.std.proofs.Common.{◌≡◌, true, false, Some, None, List, [], ◌∷◌, length, ◌≤◌, ap, sym, ◌∙◌, refl, rules, arith}
-use Rattle.vault_model.specs.Limits.{longest_content, most_versions}
-use Rattle.vault_model.specs.Shelf.{Draft, draft_at, is_shelvable}
+use Rattle.vault_state.specs.Limits.{longest_content, most_versions}
+use Rattle.vault_state.specs.Shelf.{Draft, draft_at, is_shelvable}
 use Rattle.part_versions.specs.Rooms.{weight_with, have_room}
 use Rattle.part_versions.proofs.Rooms.{refused_by_weight, refused_by_room, allowed, not_too_heavy, short_drafts, kept_after}
 use Rattle.part_versions.proofs.shelf.Shelf.append.Goals as goal

@@ -1,7 +1,7 @@
 use Rattle.std.proofs.Common.{◌≡◌, true, false, Some, None, ap, sym, ◌∙◌, refl, subst, rules, arith, ℕ, ◌≤◌, List, length}
 use Rattle.std.specs.Prelude.{All}
-use Rattle.vault_model.specs.Limits.{longest_content, most_versions}
-use Rattle.vault_model.specs.Shelf.{Draft, drafts_weight, shelved_all, is_shelvable, IsShelf}
+use Rattle.vault_state.specs.Limits.{longest_content, most_versions}
+use Rattle.vault_state.specs.Shelf.{Draft, drafts_weight, shelved_all, is_shelvable, IsShelf}
 use Rattle.part_versions.specs.Kept.{IsSoundShelf}
 use Rattle.part_versions.specs.Rooms.{weight_with, have_room}
 use Rattle.part_versions.proofs.Rooms.{refused_by_weight, refused_by_room, allowed, not_too_heavy, short_drafts, kept_after}

@@ -1,5 +1,5 @@
 use Rattle.std.proofs.Common.{length, arith, ap, subst, ◌∙◌}
-use Rattle.vault_model.specs.Shelf.{versions_of, IsShelf}
+use Rattle.vault_state.specs.Shelf.{versions_of, IsShelf}
 use Rattle.part_versions.proofs.Rooms.{few_counted}
 use Rattle.part_versions.proofs.shelf.Shelf.count.Goals as goal
 

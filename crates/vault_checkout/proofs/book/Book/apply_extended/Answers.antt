@@ -1,8 +1,8 @@
 use Rattle.std.proofs.Common.{◌∙◌, ◌++◌, true, false, sym, subst, refl}
 use Rattle.std.specs.Prelude.{IsSome}
-use Rattle.vault_model.specs.declared.ids.ClaimId.TheVariants.{Long}
-use Rattle.vault_model.specs.Claims.{put_first}
-use Rattle.vault_model.specs.Vault.{IsVault}
+use Rattle.vault_state.specs.declared.ids.ClaimId.TheVariants.{Long}
+use Rattle.vault_state.specs.Claims.{put_first}
+use Rattle.vault_state.specs.Vault.{IsVault}
 use Rattle.vault_model.specs.After.{drafts_held}
 use Rattle.vault_checkout.proofs.Applying.{extended_none, extended_as, held_is_held, extended_there}
 use Rattle.vault_checkout.proofs.book.Book.apply_extended.Goals as goal

@@ -1,10 +1,10 @@
-use Rattle.vault_model.specs.Drafts.{new_draft}
+use Rattle.vault_state.specs.Drafts.{new_draft}
 use Rattle.std.proofs.Common.{◌≡◌, ◌∙◌, Some, true, false, sym, subst, refl}
 use Rattle.std.specs.Prelude.{nat_le, ◌&&◌, length, IsSome}
-use Rattle.vault_model.specs.Tree.{is_part}
-use Rattle.vault_model.specs.Claims.{change_set}
+use Rattle.vault_state.specs.Tree.{is_part}
+use Rattle.vault_state.specs.Claims.{change_set}
 use Rattle.vault_model.specs.Step.{may_save}
-use Rattle.vault_model.proofs.Overlaps.{and_both}
+use Rattle.vault_state.proofs.Overlaps.{and_both}
 use Rattle.vault_checkout.proofs.Applying.{saved_none, saved_as, held_is_held}
 use Rattle.vault_checkout.proofs.book.Book.apply_saved.Goals as goal
 

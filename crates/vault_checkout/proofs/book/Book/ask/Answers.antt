@@ -1,5 +1,5 @@
 use Rattle.std.proofs.Common.{◌≡◌, ◌+◌, ◌++◌, ◌∷◌, [], refl, Some}
-use Rattle.vault_model.specs.Claims.{standing_behind}
+use Rattle.vault_state.specs.Claims.{standing_behind}
 use Rattle.vault_model.proofs.Kept.{kept_asked_long}
 use Rattle.long_locks.proofs.Grown.{grown_itself}
 use Rattle.check_outs.specs.declared.any.AnyCheckOut.TheVariants.{Waiting}

@@ -1,5 +1,5 @@
 use Rattle.std.proofs.Common.{◌∙◌, ap, sym, subst}
-use Rattle.vault_model.specs.Vault.{Vault, CountsBelow}
+use Rattle.vault_state.specs.Vault.{Vault, CountsBelow}
 use Rattle.vault_checkout.specs.Seen.{vault_of}
 use Rattle.vault_checkout.proofs.Following.{follows_refused}
 use Rattle.vault_checkout.proofs.Wanting.{check_out_refused, check_out_in_vain, told_check_out}

@@ -1,9 +1,9 @@
 use Rattle.std.proofs.Common.{◌≡◌, refl, true}
 use Rattle.std.specs.Prelude.{map}
-use Rattle.vault_model.specs.declared.ids.ClaimId.TheVariants.{Long}
-use Rattle.vault_model.specs.Claims.{without}
-use Rattle.vault_model.specs.Drafts.{drafts_of}
-use Rattle.vault_model.specs.Shelf.{is_shelvable}
+use Rattle.vault_state.specs.declared.ids.ClaimId.TheVariants.{Long}
+use Rattle.vault_state.specs.Claims.{without}
+use Rattle.vault_state.specs.Drafts.{drafts_of}
+use Rattle.vault_state.specs.Shelf.{is_shelvable}
 use Rattle.vault_model.proofs.Kept.{kept_checked_in}
 use Rattle.vault_checkout.specs.Seen.{vault_of}
 use Rattle.check_outs.specs.Typed.{granted, saved, without_check_out}

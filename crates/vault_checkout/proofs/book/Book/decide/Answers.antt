@@ -1,5 +1,5 @@
 use Rattle.std.proofs.Common.{◌≡◌, Some, rules}
-use Rattle.vault_model.specs.Vault.{session_of}
+use Rattle.vault_state.specs.Vault.{session_of}
 use Rattle.vault_model.proofs.Kept.{session_stands}
 use Rattle.vault_checkout.proofs.book.Book.decide.Goals as goal
 

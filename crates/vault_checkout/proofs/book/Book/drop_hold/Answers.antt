@@ -1,7 +1,7 @@
 use Rattle.std.proofs.Common.{◌≡◌, refl}
 use Rattle.std.specs.Prelude.{map}
-use Rattle.vault_model.specs.declared.ids.ClaimId.TheVariants.{Short}
-use Rattle.vault_model.specs.Claims.{without}
+use Rattle.vault_state.specs.declared.ids.ClaimId.TheVariants.{Short}
+use Rattle.vault_state.specs.Claims.{without}
 use Rattle.vault_model.proofs.Kept.{kept_released}
 use Rattle.vault_checkout.specs.Seen.{vault_of}
 use Rattle.check_outs.specs.Typed.{granted}

@@ -1,9 +1,9 @@
 use Rattle.std.proofs.Common.{◌≡◌, ◌∙◌, ◌+◌, true, sym, subst, drop, All}
-use Rattle.vault_model.specs.declared.ids.ClaimId.TheVariants.{Long}
-use Rattle.vault_model.specs.Claims.{put_first}
-use Rattle.vault_model.specs.Vault.{IsDraft}
+use Rattle.vault_state.specs.declared.ids.ClaimId.TheVariants.{Long}
+use Rattle.vault_state.specs.Claims.{put_first}
+use Rattle.vault_state.specs.Vault.{IsDraft}
 use Rattle.vault_model.specs.After.{drafts_held}
-use Rattle.vault_model.proofs.Lists.{All-front, All-back}
+use Rattle.vault_state.proofs.Lists.{All-front, All-back}
 use Rattle.check_outs.specs.Typed.{number_of, own_drafts, marked, saved}
 use Rattle.vault_checkout.proofs.Recalls.{from_one, held-append}
 use Rattle.vault_checkout.proofs.book.Book.each_stays_held.Goals as goal

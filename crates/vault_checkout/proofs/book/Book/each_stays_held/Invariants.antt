@@ -1,7 +1,7 @@
 use Rattle.std.specs.Prelude.{◌≡◌, drop, All}
-use Rattle.vault_model.specs.declared.ids.ClaimId.TheVariants.{Long}
-use Rattle.vault_model.specs.Claims.{put_first}
-use Rattle.vault_model.specs.Vault.{IsDraft}
+use Rattle.vault_state.specs.declared.ids.ClaimId.TheVariants.{Long}
+use Rattle.vault_state.specs.Claims.{put_first}
+use Rattle.vault_state.specs.Vault.{IsDraft}
 use Rattle.vault_model.specs.After.{drafts_held}
 use Rattle.check_outs.specs.Typed.{saved}
 use Rattle.vault_checkout.proofs.book.Book.each_stays_held.Given as goal

@@ -2,12 +2,12 @@ use Rattle.std.proofs.Common.{◌≡◌, ◌∙◌, ◌≤◌, ◌++◌, Some, N
 use Rattle.std.specs.Prelude.{IsOk}
 use Rattle.std.proofs.lemmas.Bool.Decides.{nat_tests}
 use Rattle.std.proofs.lemmas.List.Elements.{All-append}
-use Rattle.vault_model.specs.declared.claims.Item.{Item}
-use Rattle.vault_model.specs.Claims.{claim_of, in_way_of}
+use Rattle.vault_state.specs.declared.claims.Item.{Item}
+use Rattle.vault_state.specs.Claims.{claim_of, in_way_of}
 use Rattle.vault_model.specs.Step.{placed}
-use Rattle.vault_model.specs.Vault.{IsClaim}
+use Rattle.vault_state.specs.Vault.{IsClaim}
 use Rattle.vault_model.proofs.Kept.{length-placed}
-use Rattle.vault_model.proofs.Stays.{claim_there}
+use Rattle.vault_state.proofs.Stays.{claim_there}
 use Rattle.vault_checkout.proofs.Following.{follows_refused}
 use Rattle.vault_checkout.proofs.Extending.{not_usable, miscounted, nowhere, overlaps, extended, nobody_is_in_the_way, who_is_in_the_way}
 use Rattle.vault_checkout.proofs.book.Book.extend.Goals as goal

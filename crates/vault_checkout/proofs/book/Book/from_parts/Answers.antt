@@ -1,6 +1,6 @@
 use Rattle.std.proofs.Common.{◌≡◌, ◌∙◌, [], sym, ap, subst, arith, length, true}
 use Rattle.std.specs.Prelude.{map}
-use Rattle.vault_model.specs.Tree.{IsTree}
+use Rattle.vault_state.specs.Tree.{IsTree}
 use Rattle.long_locks.specs.Lines.{LineSeen, IsGrownFrom}
 use Rattle.long_locks.proofs.Grown.{grown_itself}
 use Rattle.check_outs.specs.Typed.{granted}

@@ -1,8 +1,8 @@
 use Rattle.std.proofs.Common.{◌≡◌, ◌∙◌, true, Some, rules, sym, subst}
-use Rattle.vault_model.specs.declared.ids.ClaimId.TheVariants.{Long}
-use Rattle.vault_model.specs.Claims.{claim_of, is_held}
+use Rattle.vault_state.specs.declared.ids.ClaimId.TheVariants.{Long}
+use Rattle.vault_state.specs.Claims.{claim_of, is_held}
 use Rattle.vault_model.proofs.Fronts.{stands_held}
-use Rattle.vault_model.proofs.Stays.{own_id}
+use Rattle.vault_state.proofs.Stays.{own_id}
 use Rattle.vault_checkout.proofs.book.Book.held.Goals as goal
 
 pub is_held-requires : goal.is_held-requires

@@ -1,5 +1,5 @@
 use Rattle.std.proofs.Common.{◌≡◌, true, is_some, sym, refl}
-use Rattle.vault_model.specs.Vault.{session_of}
+use Rattle.vault_state.specs.Vault.{session_of}
 use Rattle.vault_model.proofs.Kept.{kept_asked_short}
 use Rattle.long_locks.proofs.Grown.{grown_itself}
 use Rattle.vault_checkout.specs.Seen.{vault_of}

@@ -1,4 +1,4 @@
-use Rattle.vault_model.specs.Limits.{most_sessions, last_number}
+use Rattle.vault_state.specs.Limits.{most_sessions, last_number}
 use Rattle.vault_model.specs.Step.{join, chained}
 use Rattle.std.proofs.Common.{◌≡◌, ◌==◌, refl, rules, arith, ◌<◌, false, length}
 use Rattle.std.proofs.lemmas.Bool.Decides.{nat_tests}

@@ -1,6 +1,6 @@
 use Rattle.std.proofs.Common.{◌≡◌, refl}
 use Rattle.std.specs.Prelude.{map}
-use Rattle.vault_model.specs.Claims.{without_session}
+use Rattle.vault_state.specs.Claims.{without_session}
 use Rattle.vault_model.proofs.Kept.{kept_gone, counts_left}
 use Rattle.vault_checkout.specs.Seen.{vault_of}
 use Rattle.check_outs.specs.Typed.{granted}

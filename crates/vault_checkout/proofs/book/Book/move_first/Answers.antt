@@ -1,6 +1,6 @@
 use Rattle.std.proofs.Common.{◌≡◌, refl}
 use Rattle.std.specs.Prelude.{map}
-use Rattle.vault_model.specs.Claims.{in_way_of}
+use Rattle.vault_state.specs.Claims.{in_way_of}
 use Rattle.long_locks.specs.Lines.{extended_by}
 use Rattle.long_locks.proofs.Grown.{grown_itself}
 use Rattle.vault_checkout.specs.Seen.{vault_of}

@@ -1,8 +1,8 @@
 use Rattle.std.proofs.Common.{◌≡◌, ◌∙◌, Some, Ok, Err, true, false, rules, sym, subst}
-use Rattle.vault_model.specs.Path.{front, last}
-use Rattle.vault_model.specs.Tree.{find_place, is_part, may_nest_under}
+use Rattle.vault_state.specs.Path.{front, last}
+use Rattle.vault_state.specs.Tree.{find_place, is_part, may_nest_under}
 use Rattle.vault_model.specs.Step.{admitted}
-use Rattle.vault_model.specs.Vault.{CountsBelow}
+use Rattle.vault_state.specs.Vault.{CountsBelow}
 use Rattle.vault_checkout.proofs.Following.{follows_refused, follows_memory}
 use Rattle.vault_checkout.proofs.Nesting.{nest_refused, nest_done}
 use Rattle.vault_checkout.proofs.book.Book.nest.Given as given

@@ -1,7 +1,7 @@
 use Rattle.std.proofs.Common.{◌≡◌, refl}
 use Rattle.std.specs.Prelude.{map}
-use Rattle.vault_model.specs.declared.ids.ClaimId.TheVariants.{Long}
-use Rattle.vault_model.specs.Claims.{put_first}
+use Rattle.vault_state.specs.declared.ids.ClaimId.TheVariants.{Long}
+use Rattle.vault_state.specs.Claims.{put_first}
 use Rattle.long_locks.proofs.Grown.{grown_itself}
 use Rattle.vault_checkout.specs.Seen.{vault_of}
 use Rattle.check_outs.specs.Typed.{granted, recalled}

@@ -1,7 +1,7 @@
 use Rattle.std.proofs.Common.{◌≡◌, ◌∙◌, Some, None, true, false, refl, sym, subst}
-use Rattle.vault_model.specs.Claims.{change_set}
-use Rattle.vault_model.specs.Tree.{find_place, is_part}
-use Rattle.vault_model.specs.Vault.{CountsBelow}
+use Rattle.vault_state.specs.Claims.{change_set}
+use Rattle.vault_state.specs.Tree.{find_place, is_part}
+use Rattle.vault_state.specs.Vault.{CountsBelow}
 use Rattle.vault_checkout.proofs.Following.{follows_refused, follows_memory}
 use Rattle.vault_checkout.proofs.Saving.{save_by_another, save_nowhere, save_between, save_beside, save_too_much, save_done}
 use Rattle.vault_checkout.proofs.book.Book.save.Goals as goal

@@ -1,6 +1,6 @@
-use Rattle.vault_model.specs.Shelf.{draft_at}
+use Rattle.vault_state.specs.Shelf.{draft_at}
 use Rattle.std.proofs.Common.{◌≡◌, true, refl}
-use Rattle.vault_model.specs.Drafts.{SavedDraft, new_draft}
+use Rattle.vault_state.specs.Drafts.{SavedDraft, new_draft}
 use Rattle.vault_model.proofs.Kept.{kept_saved}
 use Rattle.vault_checkout.specs.Seen.{vault_of}
 use Rattle.check_outs.specs.Typed.{is_open}

@@ -1,7 +1,7 @@
 use Rattle.std.proofs.Common.{refl}
-use Rattle.vault_model.specs.declared.ids.ClaimId.TheVariants.{Long}
-use Rattle.vault_model.specs.Claims.{noted_as}
-use Rattle.vault_model.proofs.InPlace.{kept_noted}
+use Rattle.vault_state.specs.declared.ids.ClaimId.TheVariants.{Long}
+use Rattle.vault_state.specs.Claims.{noted_as}
+use Rattle.vault_model.proofs.KeptInPlace.{kept_noted}
 use Rattle.vault_checkout.specs.Seen.{vault_of}
 use Rattle.vault_checkout.proofs.Agreeing.{agrees_changed}
 use Rattle.vault_checkout.proofs.book.Book.set_note.Goals as goal

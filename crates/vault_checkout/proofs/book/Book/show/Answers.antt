@@ -1,6 +1,6 @@
 use Rattle.std.proofs.Common.{sym}
-use Rattle.vault_model.specs.Vault.{IsClaim}
-use Rattle.vault_model.proofs.Stays.{claim_there}
+use Rattle.vault_state.specs.Vault.{IsClaim}
+use Rattle.vault_state.proofs.Stays.{claim_there}
 use Rattle.vault_checkout.proofs.book.Book.show.Goals as goal
 
 pub at_paths-requires : goal.at_paths-requires

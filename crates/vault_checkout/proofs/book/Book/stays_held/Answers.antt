@@ -1,10 +1,10 @@
 use Rattle.std.proofs.Common.{◌≡◌, ◌∙◌, ◌==◌, Bool, refl, [], Some, None, rules, true, false, sym, subst, length, All}
 use Rattle.std.specs.Prelude.{List}
-use Rattle.vault_model.specs.declared.ids.ClaimId.TheVariants.{Long}
-use Rattle.vault_model.specs.Shelf.{Draft}
-use Rattle.vault_model.specs.Claims.{claim_of}
-use Rattle.vault_model.specs.Vault.{IsClaim, IsDraft}
-use Rattle.vault_model.proofs.Stays.{claim_there}
+use Rattle.vault_state.specs.declared.ids.ClaimId.TheVariants.{Long}
+use Rattle.vault_state.specs.Shelf.{Draft}
+use Rattle.vault_state.specs.Claims.{claim_of}
+use Rattle.vault_state.specs.Vault.{IsClaim, IsDraft}
+use Rattle.vault_state.proofs.Stays.{claim_there}
 use Rattle.check_outs.specs.Typed.{number_of, own_drafts, marked}
 use Rattle.vault_checkout.proofs.Recalls.{itself_stays, other_stays, none_stays}
 use Rattle.vault_checkout.proofs.book.Book.stays_held.Goals as goal

@@ -1,5 +1,5 @@
 use Rattle.std.proofs.Common.{◌≡◌, ◌-◌, ◌<◌, ◌^◌, [], length, rules, arith}
-use Rattle.vault_model.specs.Vault.{durable}
+use Rattle.vault_state.specs.Vault.{durable}
 use Rattle.vault_format.specs.Snapshot.{snapshot_of}
 use Rattle.vault_format.proofs.Short.{spelled_short}
 use Rattle.vault_store.proofs.Sized.{unsized_length, sized}

@@ -1,5 +1,5 @@
 use Rattle.std.proofs.Common.{◌≡◌, ◌≤◌, length, take}
-use Rattle.vault_model.specs.Claims.{without_short}
+use Rattle.vault_state.specs.Claims.{without_short}
 use Rattle.vault_store.proofs.snapshot.spelling.long_count.Given as goal
 
 abbrev pub invariant-loop-position : goal.invariant-loop-position

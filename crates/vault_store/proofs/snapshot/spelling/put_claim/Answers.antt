@@ -1,7 +1,7 @@
 use Rattle.std.proofs.Common.{rules, ◌≡◌, ◌≤◌, ◌++◌, ◌∙◌, ℕ, List, Result, Ok, Err, All, ap, arith, append_assoc, length, sym, subst}
-use Rattle.vault_model.specs.Limits.{longest_content}
-use Rattle.vault_model.specs.Shelf.{Draft}
-use Rattle.vault_model.specs.Drafts.{drafts_of}
+use Rattle.vault_state.specs.Limits.{longest_content}
+use Rattle.vault_state.specs.Shelf.{Draft}
+use Rattle.vault_state.specs.Drafts.{drafts_of}
 use Rattle.vault_journal.specs.Spelling.{in_four, name_bytes, items_bytes}
 use Rattle.vault_format.specs.Adds.{Adds}
 use Rattle.vault_format.specs.Snapshot.{current_version, number_of, designer_of, note_field, drafts_bytes}

@@ -1,8 +1,8 @@
 use Rattle.std.proofs.Common.{List, ◌++◌, ◌∙◌, ap, length, arith}
 use Rattle.std.specs.List.{flat_map}
 use Rattle.std.proofs.lemmas.List.{take_all}
-use Rattle.vault_model.specs.Claims.{without_short}
-use Rattle.vault_model.specs.declared.claims.Claim.{Claim}
+use Rattle.vault_state.specs.Claims.{without_short}
+use Rattle.vault_state.specs.declared.claims.Claim.{Claim}
 use Rattle.vault_format.specs.Snapshot.{current_version, claim_bytes}
 use Rattle.vault_format.proofs.Adding.{long_more}
 use Rattle.vault_store.proofs.snapshot.spelling.put_claims.Goals as goal

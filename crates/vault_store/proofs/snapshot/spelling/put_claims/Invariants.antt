@@ -1,6 +1,6 @@
 use Rattle.std.proofs.Common.{◌≡◌, ◌++◌, take}
 use Rattle.std.specs.List.{flat_map}
-use Rattle.vault_model.specs.Claims.{without_short}
+use Rattle.vault_state.specs.Claims.{without_short}
 use Rattle.vault_format.specs.Snapshot.{current_version, claim_bytes}
 use Rattle.vault_store.proofs.snapshot.spelling.put_claims.Given as goal
 

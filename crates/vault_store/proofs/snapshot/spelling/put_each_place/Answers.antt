@@ -1,7 +1,7 @@
 use Rattle.std.proofs.Common.{◌<◌, ◌-◌, List, ◌++◌, length, ◌∙◌, ap, sym, subst, arith}
 use Rattle.std.proofs.lemmas.List.{take_all}
-use Rattle.vault_model.specs.Limits.{most_places}
-use Rattle.vault_model.specs.declared.place.Place.{Place}
+use Rattle.vault_state.specs.Limits.{most_places}
+use Rattle.vault_state.specs.declared.place.Place.{Place}
 use Rattle.vault_format.specs.Snapshot.{current_version, places_bytes}
 use Rattle.vault_format.proofs.Adding.{places_next}
 use Rattle.vault_store.proofs.snapshot.spelling.put_each_place.Goals as goal

@@ -1,5 +1,5 @@
 use Rattle.std.proofs.Common.{List, [], ℕ, sym, subst, false}
-use Rattle.vault_model.specs.Vault.{new_vault}
+use Rattle.vault_state.specs.Vault.{new_vault}
 use Rattle.vault_store.specs.declared.opening.File.TheVariants.{First}
 use Rattle.vault_store.specs.declared.phase.Phase.TheVariants.{Idle}
 use Rattle.vault_store.specs.State.{at_rest}

@@ -1,5 +1,5 @@
 use Rattle.std.proofs.Common.{rules, ◌≡◌, ◌+◌, ◌<◌, ◌^◌, List, [], ℕ, sym, ◌∙◌, ap, subst}
-use Rattle.vault_model.specs.Vault.{durable}
+use Rattle.vault_state.specs.Vault.{durable}
 use Rattle.vault_store.specs.declared.phase.Phase.TheVariants.{Idle, Start}
 use Rattle.vault_format.specs.Files.{behind_gate}
 use Rattle.vault_store.specs.Companions.{IsOfOneVault}

@@ -1,0 +1,8 @@
+use Rattle.std.proofs.Common.{◌++◌, length, ap}
+use Rattle.std.proofs.lemmas.List.{drop-replicate}
+use Rattle.vault_state.proofs.note.in_room.Goals as goal
+
+pub returns : goal.returns
+returns c =
+    rw c.copy_from_slice.ensures.after
+    (ap (λ r. c.args.text.now ++ r) (drop-replicate (length c.args.text.now) 64 0))

@@ -1,0 +1,12 @@
+pub mod Limits
+pub mod Name
+pub mod Note
+pub mod Path
+pub mod Splits
+pub mod Items
+pub mod Tree
+pub mod Claims
+pub mod Vault
+pub mod Shelf
+pub mod Pairs
+pub mod Drafts
