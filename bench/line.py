@@ -11,31 +11,46 @@ import shutil
 import subprocess
 import tempfile
 
-CRATES = ["test_memory", "vault_model", "lock_modes", "design_tree", "lock_table", "long_locks"]
 COUNTS = [0, 64, 128, 255]
-USED = "line_speed: vault_model design_tree lock_table long_locks\n"
+USED = ["vault_state", "design_tree", "lock_table", "long_locks"]
+
+
+def used_in(text):
+    """What each crate of a crates.txt uses."""
+    rows = [line.partition("#")[0].partition(":") for line in text.splitlines()]
+    return {name.strip(): uses.split() for name, colon, uses in rows if colon}
+
+
+def below(used, names):
+    """These crates of a repository, and all below them."""
+    found = {name for name in names if name in used}
+    return found.union(*(below(used, used[name]) for name in found))
 
 
 def crates_of(text):
     """The lines of crates.txt for the crates below the program, and the program's own."""
-    lines = [line for line in text.splitlines(True) if line.split(":")[0].split()[:1] and line.split(":")[0].split()[0] in CRATES]
-    return "".join(lines) + USED
+    used = used_in(text)
+    crates = below(used, USED)
+    lines = [f"{name}: {' '.join(uses)}\n" for name, uses in used.items() if name in crates]
+    return "".join(lines) + f"line_speed: {' '.join(USED)}\n"
 
 
 def own_tree(folder):
     """The crates of this tree, with what `rt check` left in out/."""
-    for crate in CRATES:
-        shutil.copytree(f"crates/{crate}", f"{folder}/crates/{crate}", symlinks=True)
     with open("crates.txt", encoding="utf-8") as file:
-        return file.read()
+        text = file.read()
+    for crate in below(used_in(text), USED):
+        shutil.copytree(f"crates/{crate}", f"{folder}/crates/{crate}", symlinks=True)
+    return text
 
 
 def old_tree(commit, folder):
-    """The crates of a commit. Each is proved from nothing."""
-    packed = subprocess.run(["git", "archive", commit, "crates.txt"] + [f"crates/{crate}" for crate in CRATES], stdout=subprocess.PIPE, check=True)
+    """The crates of a commit that has vault_state. Each is proved from nothing."""
+    text = subprocess.run(["git", "show", f"{commit}:crates.txt"], stdout=subprocess.PIPE, text=True, check=True).stdout
+    crates = [f"crates/{crate}" for crate in below(used_in(text), USED)]
+    packed = subprocess.run(["git", "archive", commit, *crates], stdout=subprocess.PIPE, check=True)
     subprocess.run(["tar", "x", "-C", folder], input=packed.stdout, check=True)
-    with open(f"{folder}/crates.txt", encoding="utf-8") as file:
-        return file.read()
+    return text
 
 
 def built(folder, fill):
@@ -84,7 +99,7 @@ def shown(name, table):
 
 def main():
     parser = argparse.ArgumentParser(description=__doc__.splitlines()[0])
-    parser.add_argument("--old", help="a commit to time beside this tree, in the same run")
+    parser.add_argument("--old", help="a commit that has vault_state, to time beside this tree in the same run")
     parser.add_argument("--folder", help="where both are built, and found again by a later run; a new one where it isn't given")
     parser.add_argument("--runs", type=int, default=5, help="how often each program runs; the least counts")
     options = parser.parse_args()
