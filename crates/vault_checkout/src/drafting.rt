@@ -9,7 +9,7 @@ use crate::changes::copied;
 use crate::done::Done;
 use check_outs::{Stop, is_changed_by};
 use std::alloc::Allocator;
-use vault_model::{ClaimId, Effect, Path, Refusal, Reply, Session};
+use vault_model::{ClaimId, Effect, NoMemory, Path, Refusal, Reply, Session};
 
 impl<A: Allocator + Copy> Book<A> {
     #[tactic(auto, unfolding(vault_model::specs::Step::save, vault_model::specs::Step::chained))]
@@ -38,7 +38,10 @@ impl<A: Allocator + Copy> Book<A> {
         }
         let alloc = *self.check_outs.allocator();
         let kept = copied(alloc, content)?;
-        self.save_draft(number, place, content)?;
+        if let Err(NoMemory) = self.save_draft(number, place, content) {
+            drop(kept);
+            return Err(Stop::OutOfMemory);
+        }
         Ok(Done {
             reply: Reply::Saved,
             effect: Some(Effect::Saved(number, place, kept)),

@@ -1,5 +1,5 @@
 -- Calls that change nothing, one behind another, and why one failed.
-use Rattle.std.proofs.Common.{◌≡◌, inl, inr, ℕ, IsTrue, sym, ◌∙◌, subst, arith, Result, Ok, Err, IfErr}
+use Rattle.std.proofs.Common.{◌≡◌, ◌≤◌, inl, inr, ℕ, IsTrue, length, sym, ◌∙◌, subst, arith, Result, Ok, Err, IfErr}
 use Rattle.std.specs.Result.{IsErrAnd}
 use Rattle.vault_device.specs.Disk.{Disk}
 use Rattle.vault_device.proofs.Moments.{read_then}
@@ -23,6 +23,12 @@ and_reads old mid new first second = record {
 
 pub cause_behind : (old mid new : Disk) → AreReads old mid → HasCause mid new → HasCause old new
 cause_behind old mid new first cause = elim cause [ inl more ↦ inl (omega (arith, more, first.called.no_fewer_faults)) | inr last ↦ inr last ]
+
+-- what a file is as long as, it is as long as behind reads
+pub length_kept : (old mid : Disk) (end : ℕ) → AreReads old mid → (IsTrue old.honest → end ≤ length old.shown) → IsTrue mid.honest → end ≤ length mid.shown
+length_kept old mid end first long honest =
+    let was = subst IsTrue first.called.same_honesty honest in
+    subst (λ bytes. end ≤ length bytes) (sym (first.read was).shown) (long was)
 
 -- no fault was counted by calls one behind the other, if each counted none
 pub quiet_then : (old mid new : Disk) → IsQuiet old mid → IsQuiet mid new → IsQuiet old new

@@ -170,10 +170,29 @@ fn read_back<D: Device, A: Allocator + Copy>(
     let mut drafts = Vec::new(alloc);
     let rest = match read_claims(alloc, FileVersion::Two, &mut claims, &mut drafts, &bytes) {
         Ok(rest) => rest,
-        Err(SnapshotError::NotWellFormed) => return Ok(None),
-        Err(SnapshotError::NoMemory) => return Err(ReadError::NoMemory),
+        Err(SnapshotError::NotWellFormed) => {
+            drop(bytes);
+            drop(tree);
+            drop(shelf);
+            drop(claims);
+            drop(drafts);
+            return Ok(None);
+        }
+        Err(SnapshotError::NoMemory) => {
+            drop(bytes);
+            drop(tree);
+            drop(shelf);
+            drop(claims);
+            drop(drafts);
+            return Err(ReadError::NoMemory);
+        }
     };
     if !rest.is_empty() {
+        drop(bytes);
+        drop(tree);
+        drop(shelf);
+        drop(claims);
+        drop(drafts);
         return Ok(None);
     }
     match Book::from_parts(tree, shelf, last_long, claims, drafts) {

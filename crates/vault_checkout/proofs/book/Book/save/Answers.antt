@@ -42,19 +42,19 @@ returns-in_err-kept-clause-told g c =
     let changed : change_set c.args.self.now.tree c.in_ok-claim.claim.items c.in-Some.place ≡ true = rw (← c.self.view_is) (rw c.as_slice.ensures.items at (sym c.is_changed_by.ensures ∙ c.if-not-is_changed_by.false)) in
     follows_memory c.args.self.now c.args.self.now c.from_residual-in_err-kept.result _ _ c.from_residual-in_err-kept.ensures.1 (save_done c.args.self.now c.args.session.now c.args.number c.args.path.now c.args.content.now c.in_ok-claim.claim (sym c.in_ok-claim.ensures.decided) c.in-Some.place found part changed (sym c.may_save.ensures ∙ c.if-not-may_save.false)) refl
 
-pub returns-in_err-save_draft-clause-told : goal.returns-in_err-save_draft-clause-told
-returns-in_err-save_draft-clause-told g c =
+pub returns-in-Err-clause-told : goal.returns-in-Err-clause-told
+returns-in-Err-clause-told g c =
     let found : find_place c.args.self.now.tree c.args.path.now ≡ Some c.in-Some.place = rw (← c.self.view_is) (sym c.in-Some.ensures.found) in
     let part : is_part c.args.self.now.tree c.in-Some.place ≡ true = rw (← c.self.view_is) (sym c.is_part.ensures ∙ c.if-not-is_part.false) in
     let changed : change_set c.args.self.now.tree c.in_ok-claim.claim.items c.in-Some.place ≡ true = rw (← c.self.view_is) (rw c.as_slice.ensures.items at (sym c.is_changed_by.ensures ∙ c.if-not-is_changed_by.false)) in
-    follows_memory c.args.self.now c.save_draft.new.self c.from_residual-in_err-save_draft.result _ _ c.from_residual-in_err-save_draft.ensures.1 (save_done c.args.self.now c.args.session.now c.args.number c.args.path.now c.args.content.now c.in_ok-claim.claim (sym c.in_ok-claim.ensures.decided) c.in-Some.place found part changed (sym c.may_save.ensures ∙ c.if-not-may_save.false)) c.in_err-save_draft.ensures.unchanged
+    (rw (save_done c.args.self.now c.args.session.now c.args.number c.args.path.now c.args.content.now c.in_ok-claim.claim (sym c.in_ok-claim.ensures.decided) c.in-Some.place found part changed (sym c.may_save.ensures ∙ c.if-not-may_save.false)) refl, c.in-Err.ensures.unchanged)
 
 pub returns-clause-told : goal.returns-clause-told
 returns-clause-told g c =
     let found : find_place c.args.self.now.tree c.args.path.now ≡ Some c.in-Some.place = rw (← c.self.view_is) (sym c.in-Some.ensures.found) in
     let part : is_part c.args.self.now.tree c.in-Some.place ≡ true = rw (← c.self.view_is) (sym c.is_part.ensures ∙ c.if-not-is_part.false) in
     let changed : change_set c.args.self.now.tree c.in_ok-claim.claim.items c.in-Some.place ≡ true = rw (← c.self.view_is) (rw c.as_slice.ensures.items at (sym c.is_changed_by.ensures ∙ c.if-not-is_changed_by.false)) in
-    rw (c.in_ok-kept.ensures, c.in_ok-save_draft.ensures.saved) (save_done c.args.self.now c.args.session.now c.args.number c.args.path.now c.args.content.now c.in_ok-claim.claim (sym c.in_ok-claim.ensures.decided) c.in-Some.place found part changed (sym c.may_save.ensures ∙ c.if-not-may_save.false))
+    rw (c.in_ok-kept.ensures, c.in_default-save_draft.ensures.saved) (save_done c.args.self.now c.args.session.now c.args.number c.args.path.now c.args.content.now c.in_ok-claim.claim (sym c.in_ok-claim.ensures.decided) c.in-Some.place found part changed (sym c.may_save.ensures ∙ c.if-not-may_save.false))
 
 pub returns-clause-counts : goal.returns-clause-counts
-returns-clause-counts g c = λ bound h. subst (CountsBelow bound) (sym c.in_ok-save_draft.ensures.saved) (record { door = h.door; each = h.each })
+returns-clause-counts g c = λ bound h. subst (CountsBelow bound) (sym c.in_default-save_draft.ensures.saved) (record { door = h.door; each = h.each })
