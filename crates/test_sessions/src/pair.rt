@@ -3,6 +3,7 @@
 ghost use Rattle.std.specs.Prelude.{◌≡◌};
 ghost use denote.Param.Send.{Frees};
 
+use blocking_sessions::{Report, serve_one};
 use group_commit::Vault;
 use std::alloc::{Allocator, Global};
 use std::marker::Brand;
@@ -14,9 +15,7 @@ use std::time::Clock;
 use test_fixtures::{Begun, Devices, Hearer, Piece, Sender, created};
 use test_memory::Refusing;
 use vault_device::{Device, MemDevice};
-use vault_sessions::{
-    Ended, Flushed, OpenGate, Report, Share, Shared, Tally, Totals, gather, run_flusher, serve_one,
-};
+use vault_sessions::{Ended, Flushed, OpenGate, Share, Shared, Tally, Totals, gather, run_flusher};
 
 /// What one of two connections says, how each line of its answers begins, and why it ends.
 #[derive(Clone, Copy)]

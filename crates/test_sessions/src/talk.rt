@@ -4,6 +4,7 @@ ghost use Rattle.std.specs.Prelude.{◌≡◌};
 ghost use denote.Param.Send.{Frees};
 
 use crate::filling::{Start, begun};
+use blocking_sessions::{Report, serve_one};
 use group_commit::Vault;
 use std::alloc::{Allocator, Global};
 use std::marker::Brand;
@@ -20,8 +21,7 @@ use test_fixtures::{
 use test_memory::Refusing;
 use vault_device::{Device, MemDevice};
 use vault_sessions::{
-    Ended, Flushed, Gate, OpenGate, Point, Report, Share, Shared, Tally, Totals, gather,
-    run_flusher, serve_one,
+    Ended, Flushed, Gate, OpenGate, Point, Share, Shared, Tally, Totals, gather, run_flusher,
 };
 
 /// How often files are called in a commit, and in a snapshot.

@@ -10,8 +10,7 @@ use Rattle.mio.specs.contracts.poll.Poll as Poll
 use Rattle.vault_state.proofs.Sends.{fields}
 use Rattle.vault_device.specs.declared.device.Device.{Ghosts as DeviceGhosts}
 use Rattle.tcp_door.proofs.Sends.{bell_sync, crowd_sync, receiver_send, sender_send}
-use Rattle.vault_sessions.specs.declared.tally.Tally.{Ghosts as TallyGhosts}
-use Rattle.vault_sessions.proofs.Sends.{worker_send}
+use Rattle.vault_sessions.proofs.Sends.{TallyGhosts, worker_send}
 use Rattle.vault_server.specs.contracts.commits.CommitToken as CommitToken
 use Rattle.vault_server.specs.contracts.event_loop.EventLoop as EventLoop
 use Rattle.vault_server.specs.contracts.slot.Patience as Patience

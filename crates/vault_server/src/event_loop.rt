@@ -173,7 +173,7 @@ impl<D: Device, S: Tally, T: Tally, A: Allocator + Copy, G: Gate, H: Wait + Cloc
         if !one_waits(slots) {
             return false;
         }
-        let moves = self.worker.moves();
+        let moves = self.worker.shared.moves(self.worker.rt);
         if moves == *seen {
             return false;
         }

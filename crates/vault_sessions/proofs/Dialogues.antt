@@ -1,28 +1,26 @@
 -- A dialogue goes from step to step, and ends.
-use Rattle.std.proofs.Common.{◌≡◌, ◌≢◌, ℕ, ◌+◌, ◌<◌, ◌≤◌, Bool, true, false, List, [], length, drop, drop_of_length-le, sym, refl, subst, arith, Option, inl}
+use Rattle.std.proofs.Common.{◌≡◌, ◌≢◌, ℕ, ◌+◌, ◌<◌, ◌≤◌, Bool, true, false, List, length, drop, drop_of_length-le, sym, refl, subst, arith, Option}
 use Rattle.std.proofs.lemmas.Bool.Decides.{nat_tests}
 use Rattle.std.specs.Prelude.{◌==◌}
 use Rattle.std.specs.Io.KnownBytes.{Appends}
 use Rattle.std.proofs.KnownBytes.{Appends-nil}
 use Rattle.line_inlet.specs.Inflow.{Inflow}
-use Rattle.vault_sessions.specs.Serving.{session_of, left_behind, lost_by, Counts, CountsWith, HeardAll, WritesAll}
-use Rattle.vault_sessions.specs.Talking.{Stands, TellsOn}
+use Rattle.vault_desk.specs.Serving.{session_of, left_behind, lost_by, Counts, CountsWith}
+use Rattle.vault_desk.specs.Talking.{Stands, TellsOn}
 use Rattle.vault_sessions.specs.Dialogues.{IsDone, StandsIn, is_done, has_ended, awaits_of}
-use Rattle.vault_sessions.specs.declared.report.Out.{Out}
-use Rattle.vault_sessions.specs.declared.report.Ended.{Ended}
-use Rattle.vault_sessions.specs.declared.report.Ended.TheVariants as ends
+use Rattle.vault_desk.specs.declared.report.Out.{Out}
+use Rattle.vault_desk.specs.declared.report.Ended.{Ended}
+use Rattle.vault_desk.specs.declared.report.Ended.TheVariants as ends
 use Rattle.group_commit.specs.Ticket.{TicketSeen}
 use Rattle.vault_sessions.specs.declared.dialogue.Awaits.TheVariants as awaited
-use Rattle.vault_sessions.specs.declared.tally.Totals.{Totals}
-use Rattle.vault_sessions.specs.declared.turn.Telling.{Telling}
-use Rattle.vault_sessions.specs.declared.turn.Turn.{Turn}
-use Rattle.vault_sessions.specs.declared.turn.Turn.TheVariants.{Hear, Keep, Wait, Tell, Over}
-use Rattle.vault_sessions.specs.declared.turn.Next.{Next}
-use Rattle.vault_sessions.specs.declared.turn.Next.TheVariants.{Takes, GivenUp, Done, TakenOut}
-use Rattle.vault_sessions.specs.declared.waits.PendingWait.{PendingWait}
-use Rattle.vault_sessions.proofs.Heard.{hears_nothing, hears_end}
-use Rattle.vault_sessions.proofs.Told.{not_ended_left}
-use Rattle.vault_sessions.proofs.Talks.{part_end, ends_so, readers, told_on}
+use Rattle.vault_desk.specs.declared.tally.Totals.{Totals}
+use Rattle.vault_desk.specs.declared.turn.Telling.{Telling}
+use Rattle.vault_desk.specs.declared.turn.Turn.{Turn}
+use Rattle.vault_desk.specs.declared.turn.Turn.TheVariants.{Hear, Keep, Wait, Tell, Over}
+use Rattle.vault_sessions.specs.declared.next.Next.{Next}
+use Rattle.vault_sessions.specs.declared.next.Next.TheVariants.{Takes, GivenUp, Done, TakenOut}
+use Rattle.vault_desk.specs.declared.waits.PendingWait.{PendingWait}
+use Rattle.vault_desk.proofs.Talks.{part_end, ends_so, readers, told_on}
 
 -- its session is the one that the answers leave open
 pub stands_for : {A : Type 0} (next : Next A) (r0 r w0 w : Option (List ℕ)) (s0 : Totals) (inflow : Inflow) (kept : List ℕ) (is_long : Bool)
@@ -149,23 +147,3 @@ pub stops_left : {A : Type 0} (telling : Telling A) (r0 r w0 w : Option (List �
     → Stands (Tell telling) r0 r w0 w s0 inflow kept is_long outs session share → Stands (Over ends.Quit) r0 r w0 w s0 inflow kept is_long outs session share
 stops_left telling r0 r w0 w s0 inflow kept is_long outs session share long left h =
     told_on telling (Over ends.Quit) r0 r w0 w w s0 inflow kept is_long outs session share (told_nothing telling w long, left) h
-
--- where nothing was heard and nothing written, memory may have been refused
-pub none_heard : {A : Type 0} (a b : Option (List ℕ)) (outs : List (Out A)) → outs ≡ [] → b ≡ a → HeardAll a b outs ends.NoMemory
-none_heard a b outs none same = subst (λ r. HeardAll a r outs ends.NoMemory) (sym same) (hears_end a a _ outs ends.NoMemory (hears_nothing a outs none) (λ given left. tt))
-
-pub none_written : {A : Type 0} (a b : Option (List ℕ)) (outs : List (Out A)) → outs ≡ [] → b ≡ a → WritesAll ends.NoMemory a b outs
-none_written {A} a b outs none same =
-    let P : List (Out A) → Type 0 = λ o. WritesAll ends.NoMemory a a o in
-    let here : P [] = inl (Appends-nil a, not_ended_left [] tt) in
-    subst (λ w. WritesAll ends.NoMemory a w outs) (sym same) (subst P (sym none) here)
-
--- what was heard of a connection was heard of its reader
-pub heard_of : {A : Type 0} (a a' b b' : Option (List ℕ)) (outs : List (Out A)) (ended : Ended) → HeardAll a b outs ended → a ≡ a' → b ≡ b' → HeardAll a' b' outs ended
-heard_of a a' b b' outs ended h first last = subst (λ r. HeardAll a' r outs ended) last (subst (λ r. HeardAll r b outs ended) first h)
-
--- what was written over a connection was written by its writer
-pub written_of : {A : Type 0} (a a' b b' : Option (List ℕ)) (outs outs' : List (Out A)) (ended ended' : Ended) → WritesAll ended a b outs → a ≡ a' → b ≡ b'
-    → outs ≡ outs' → ended ≡ ended' → WritesAll ended' a' b' outs'
-written_of a a' b b' outs outs' ended ended' h first last same end =
-    subst (λ e. WritesAll e a' b' outs') end (subst (λ o. WritesAll ended a' b' o) same (subst (λ w. WritesAll ended a' w outs) last (subst (λ w. WritesAll ended w b outs) first h)))

@@ -1,7 +1,7 @@
 -- What contracts see of a dialogue. This project's own.
 use Rattle.std.specs.Prelude.{ℕ, Bool, List, Option}
 use Rattle.vault_sessions.specs.declared.dialogue.Awaits.{Awaits}
-use Rattle.vault_sessions.specs.declared.tally.Totals.{Totals}
+use Rattle.vault_desk.specs.declared.tally.Totals.{Totals}
 
 -- what a dialogue began with: the bytes that its connection had to give, the bytes written to it, and what the share counted; also the
 -- references that the connection holds, and whether the values of answers are kept

@@ -1,21 +1,21 @@
 -- What holds of a dialogue between two steps. This project's own.
 use Rattle.std.specs.Prelude.{◌≡◌, ◌≢◌, ℕ, ◌≤◌, Bool, true, false, List, length, Option, Some, None}
 use Rattle.line_inlet.specs.Inflow.{Inflow}
-use Rattle.vault_sessions.specs.Serving.{most_lines, HeardAll, SpeaksFor, session_of, WritesAll, QuitsBy, CountsAll}
-use Rattle.vault_sessions.specs.Talking.{Stands}
-use Rattle.vault_sessions.specs.declared.report.Out.{Out}
-use Rattle.vault_sessions.specs.declared.report.Ended.{Ended}
-use Rattle.vault_sessions.specs.declared.tally.Tally.{Ghosts as TallyGhosts}
-use Rattle.vault_sessions.specs.declared.tally.Totals.{Totals}
-use Rattle.vault_sessions.specs.declared.conversation.Conversation.{Conversation}
+use Rattle.vault_desk.specs.Serving.{most_lines, HeardAll, SpeaksFor, session_of, WritesAll, QuitsBy, CountsAll}
+use Rattle.vault_desk.specs.Talking.{Stands}
+use Rattle.vault_desk.specs.declared.report.Out.{Out}
+use Rattle.vault_desk.specs.declared.report.Ended.{Ended}
+use Rattle.vault_desk.specs.declared.tally.Tally.{Ghosts as TallyGhosts}
+use Rattle.vault_desk.specs.declared.tally.Totals.{Totals}
+use Rattle.vault_desk.specs.declared.conversation.Conversation.{Conversation}
 use Rattle.vault_sessions.specs.declared.dialogue.Awaits.{Awaits}
 use Rattle.vault_sessions.specs.declared.dialogue.Awaits.TheVariants as awaited
 use Rattle.vault_sessions.specs.declared.dialogue.Step.{Step}
 use Rattle.vault_sessions.specs.declared.dialogue.Step.TheVariants as steps
-use Rattle.vault_sessions.specs.declared.turn.Next.{Next}
-use Rattle.vault_sessions.specs.declared.turn.Turn.{Turn}
-use Rattle.vault_sessions.specs.declared.turn.Turn.TheVariants.{Hear, Keep, Wait, Tell, Over}
-use Rattle.vault_sessions.specs.declared.turn.Next.TheVariants.{Takes, GivenUp, Done, TakenOut}
+use Rattle.vault_sessions.specs.declared.next.Next.{Next}
+use Rattle.vault_desk.specs.declared.turn.Turn.{Turn}
+use Rattle.vault_desk.specs.declared.turn.Turn.TheVariants.{Hear, Keep, Wait, Tell, Over}
+use Rattle.vault_sessions.specs.declared.next.Next.TheVariants.{Takes, GivenUp, Done, TakenOut}
 
 -- What a conversation came to in all, also with its last leave: what it heard, whom it spoke for, what it wrote and what it counted.
 pub record IsDone {A : Type 0} (ended : Ended) (reader_old reader_new writer_old writer_new : Option (List ℕ)) (counts : Totals)

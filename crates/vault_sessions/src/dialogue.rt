@@ -1,23 +1,18 @@
 //! One connection's conversation, from its first byte to its report: the code that serves is the code that is proved.
-ghost use Rattle.std.specs.Prelude.{◌≡◌, ◌≢◌, ◌≤◌, ◌↔◌, ◌||◌, ℕ, Bool, IsTrue, MatchBool, true, false, List, Option, None, IfOk, IfErr, length};
+ghost use Rattle.std.specs.Prelude.{◌≡◌, ◌≢◌, ◌≤◌, ◌↔◌, ◌||◌, ℕ, Bool, IsTrue, MatchBool, true, false, List, Option, None, IfOk, IfErr, OnOk, OnErr, length, ◌+◌};
 ghost use Rattle.line_inlet.specs.Inflow.{Inflow};
-ghost use Rattle.vault_sessions.specs.Serving.{most_lines, HeardAll, SpeaksFor, session_of, CountsAll, WritesAll, QuitsBy};
-ghost use Rattle.vault_sessions.specs.Talking.{Stands, StandsAt};
+ghost use Rattle.vault_desk.specs.Serving.{Counts, most_lines, HeardAll, SpeaksFor, session_of, CountsAll, WritesAll, QuitsBy};
+ghost use Rattle.vault_desk.specs.Talking.{Stands, StandsAt};
 ghost use Rattle.vault_sessions.specs.Dialogues.{IsDone, StandsIn, TalksOn, HasLeft, StepsBy, is_done, has_ended, awaits_of};
-ghost use Rattle.vault_sessions.specs.declared.report.Out.{Out};
-ghost use Rattle.vault_sessions.specs.declared.tally.Totals.{Totals};
-ghost use Rattle.vault_sessions.specs.declared.turn.Turn.TheVariants as turns;
-ghost use Rattle.vault_sessions.specs.declared.turn.Next.TheVariants as nexts;
+ghost use Rattle.vault_desk.specs.declared.report.Out.{Out};
+ghost use Rattle.vault_desk.specs.declared.tally.Totals.{Totals};
+ghost use Rattle.vault_desk.specs.declared.turn.Turn.TheVariants as turns;
+ghost use Rattle.vault_sessions.specs.declared.next.Next.TheVariants as nexts;
 ghost use Rattle.vault_sessions.specs.declared.dialogue.Step.TheVariants as steps;
 ghost use Rattle.vault_sessions.specs.declared.dialogue.Awaits.TheVariants as awaited;
 
-use crate::conversation::Conversation;
-use crate::gate::Gate;
 use crate::last_leave::LastLeave;
-use crate::report::{Ended, Finished};
-use crate::tally::{Share, Tally};
-use crate::turn::{Next, Telling, Turn, tell};
-use crate::waits::PendingWait;
+use crate::next::{Finished, Next};
 use crate::worker::Worker;
 use group_commit::Ticket;
 use line_inlet::Connection;
@@ -26,8 +21,12 @@ use std::marker::Model;
 use std::mem;
 use std::snapshot::Snapshot;
 use std::sync::Wait;
+use vault_desk::{
+    Answers, Clerk, Conversation, Ended, Gate, NotStaged, PendingWait, Share, Tally, Telling, Turn,
+    tell,
+};
 use vault_device::Device;
-use vault_model::Outside;
+use vault_model::{Command, Outside};
 
 /// What a step came to.
 #[derive(Debug, Clone, Copy, PartialEq, Eq)]
@@ -95,7 +94,7 @@ impl<C: Connection, S: Tally, T: Tally, A: Allocator> Model for Dialogue<C, S, T
       has_ended = has_ended d.next;
     } };
 
-    // Invariant 8 of lib.rt.
+    // The invariant of lib.rt.
     ghost invariant = { λ d. TalksOn d.next (C.remaining d.began.value) (C.remaining d.connection) (C.contents d.began.value)
         (C.contents d.connection) d.counted.value d.talk };
 }
@@ -142,6 +141,7 @@ impl<C: Connection, S: Tally, T: Tally, A: Allocator + Copy> Dialogue<C, S, T, A
     }
 
     /// Takes the next step, where it can be taken now.
+    #[tactic(auto, using(crate::proofs::Dialogues::done_ended))]
     pub fn step<D: Device, G: Gate, H: Wait>(
         &mut self,
         worker: &Worker<'_, D, S, T, A, G, H>,
@@ -152,24 +152,8 @@ impl<C: Connection, S: Tally, T: Tally, A: Allocator + Copy> Dialogue<C, S, T, A
         ensures ended { self.new.has_ended ≡ (self.new.is_over || self.old.has_ended) }
         ensures silent { self.old.has_ended ≡ true → (self.new.remaining ≡ self.old.remaining) × (self.new.contents ≡ self.old.contents) }
     {
-        self.step_on(worker, false)
-    }
-
-    // Takes the next step. With `waits` it waits for a reply, and for room for a last leave. Else it looks once.
-    #[tactic(auto, using(crate::proofs::Dialogues::done_ended))]
-    pub(crate) fn step_on<D: Device, G: Gate, H: Wait>(
-        &mut self,
-        worker: &Worker<'_, D, S, T, A, G, H>,
-        waits: bool,
-    ) -> Step
-        ensures began { self.new.began ≡ self.old.began }
-        ensures came { StepsBy result self.old.awaits self.new.awaits }
-        ensures over { (result ≡ steps.Over) ↔ (self.new.is_over ≡ true) }
-        ensures ended { self.new.has_ended ≡ (self.new.is_over || self.old.has_ended) }
-        ensures silent { self.old.has_ended ≡ true → (self.new.remaining ≡ self.old.remaining) × (self.new.contents ≡ self.old.contents) }
-    {
         let next = mem::replace(&mut self.next, Next::TakenOut);
-        let (next, step) = advance(worker, waits, &mut self.talk, &mut self.connection, next);
+        let (next, step) = advance(&worker.clerk(), &mut self.talk, &mut self.connection, next);
         put_back(&mut self.next, next);
         step
     }
@@ -182,7 +166,7 @@ impl<C: Connection, S: Tally, T: Tally, A: Allocator + Copy> Dialogue<C, S, T, A
         ensures silent { (self.new.remaining ≡ self.old.remaining) × (self.new.contents ≡ self.old.contents) }
     {
         let next = mem::replace(&mut self.next, Next::TakenOut);
-        let next = give_up(worker, next);
+        let next = give_up(&worker.clerk(), next);
         put_back(&mut self.next, next);
     }
 
@@ -302,8 +286,7 @@ fn put_back<A: Allocator>(place: &mut Next<A>, next: Next<A>)
 
 // Takes a step.
 fn advance<D: Device, S: Tally, T: Tally, A: Allocator + Copy, G: Gate, H: Wait, C: Connection>(
-    worker: &Worker<'_, D, S, T, A, G, H>,
-    waits: bool,
+    clerk: &Clerk<'_, D, S, T, A, G, H>,
     talk: &mut Conversation<S, T, A>,
     connection: &mut C,
     next: Next<A>,
@@ -320,12 +303,12 @@ fn advance<D: Device, S: Tally, T: Tally, A: Allocator + Copy, G: Gate, H: Wait,
         → (C.remaining connection.new ≡ C.remaining connection.old) × (C.contents connection.new ≡ C.contents connection.old) }
 {
     match next {
-        Next::Takes(Turn::Hear) => hear(worker, talk, connection),
-        Next::Takes(Turn::Keep(kept)) => stage_kept(worker, waits, talk, kept),
-        Next::Takes(Turn::Wait(ticket)) => settle(worker, waits, talk, ticket),
+        Next::Takes(Turn::Hear) => hear(clerk, talk, connection),
+        Next::Takes(Turn::Keep(kept)) => stage_kept(clerk, talk, kept),
+        Next::Takes(Turn::Wait(ticket)) => settle(clerk, talk, ticket),
         Next::Takes(Turn::Tell(telling)) => tell_on(connection, telling),
-        Next::Takes(Turn::Over(ended)) => leave(worker, waits, talk, ended, false),
-        Next::GivenUp(ended) => leave(worker, waits, talk, ended, true),
+        Next::Takes(Turn::Over(ended)) => leave(clerk, talk, ended, false),
+        Next::GivenUp(ended) => leave(clerk, talk, ended, true),
         Next::Done(ended, left) => (Next::Done(ended, left), Step::Over),
         Next::TakenOut => (Next::TakenOut, Step::Over),
     }
@@ -333,7 +316,7 @@ fn advance<D: Device, S: Tally, T: Tally, A: Allocator + Copy, G: Gate, H: Wait,
 
 // Hears a line.
 fn hear<D: Device, S: Tally, T: Tally, A: Allocator + Copy, G: Gate, H: Wait, C: Connection>(
-    worker: &Worker<'_, D, S, T, A, G, H>,
+    clerk: &Clerk<'_, D, S, T, A, G, H>,
     talk: &mut Conversation<S, T, A>,
     connection: &mut C,
 ) -> (Next<A>, Step)
@@ -345,7 +328,7 @@ fn hear<D: Device, S: Tally, T: Tally, A: Allocator + Copy, G: Gate, H: Wait, C:
     ensures over { (result.1 ≡ steps.Over) ↔ (is_done result.0 ≡ true) }
     ensures ended { has_ended result.0 ≡ is_done result.0 }
 {
-    match worker.hear(talk, connection) {
+    match clerk.hear(talk, connection) {
         Turn::Hear => (Next::Takes(Turn::Hear), Step::Dry),
         turn => (Next::Takes(turn), Step::Went),
     }
@@ -353,8 +336,7 @@ fn hear<D: Device, S: Tally, T: Tally, A: Allocator + Copy, G: Gate, H: Wait, C:
 
 // Stages a kept `wait`, once it is time.
 fn stage_kept<D: Device, S: Tally, T: Tally, A: Allocator + Copy, G: Gate, H: Wait>(
-    worker: &Worker<'_, D, S, T, A, G, H>,
-    waits: bool,
+    clerk: &Clerk<'_, D, S, T, A, G, H>,
     talk: &mut Conversation<S, T, A>,
     kept: PendingWait,
 ) -> (Next<A>, Step)
@@ -366,7 +348,7 @@ fn stage_kept<D: Device, S: Tally, T: Tally, A: Allocator + Copy, G: Gate, H: Wa
     ensures over { (result.1 ≡ steps.Over) ↔ (is_done result.0 ≡ true) }
     ensures ended { has_ended result.0 ≡ is_done result.0 }
 {
-    match worker.stage_kept(talk, kept, waits) {
+    match clerk.stage_kept(talk, kept) {
         Turn::Keep(kept) => (Next::Takes(Turn::Keep(kept)), Step::Waits),
         turn => (Next::Takes(turn), Step::Went),
     }
@@ -374,8 +356,7 @@ fn stage_kept<D: Device, S: Tally, T: Tally, A: Allocator + Copy, G: Gate, H: Wa
 
 // Answers the command that a ticket is for, once its fate is known.
 fn settle<D: Device, S: Tally, T: Tally, A: Allocator + Copy, G: Gate, H: Wait>(
-    worker: &Worker<'_, D, S, T, A, G, H>,
-    waits: bool,
+    clerk: &Clerk<'_, D, S, T, A, G, H>,
     talk: &mut Conversation<S, T, A>,
     ticket: Ticket<A>,
 ) -> (Next<A>, Step)
@@ -387,7 +368,7 @@ fn settle<D: Device, S: Tally, T: Tally, A: Allocator + Copy, G: Gate, H: Wait>(
     ensures over { (result.1 ≡ steps.Over) ↔ (is_done result.0 ≡ true) }
     ensures ended { has_ended result.0 ≡ is_done result.0 }
 {
-    match worker.settle(talk, ticket, waits) {
+    match clerk.settle(talk, ticket) {
         Turn::Wait(ticket) => (Next::Takes(Turn::Wait(ticket)), Step::Waits),
         turn => (Next::Takes(turn), Step::Went),
     }
@@ -413,8 +394,7 @@ fn tell_on<A: Allocator, C: Connection>(connection: &mut C, telling: Telling<A>)
 
 // Stages a last leave of the open session, if there is one. Only a full history puts it off: a leave asks for no memory.
 fn leave<D: Device, S: Tally, T: Tally, A: Allocator + Copy, G: Gate, H: Wait>(
-    worker: &Worker<'_, D, S, T, A, G, H>,
-    waits: bool,
+    clerk: &Clerk<'_, D, S, T, A, G, H>,
     talk: &mut Conversation<S, T, A>,
     ended: Ended,
     is_given_up: bool,
@@ -431,11 +411,7 @@ fn leave<D: Device, S: Tally, T: Tally, A: Allocator + Copy, G: Gate, H: Wait>(
     if talk.session == 0 {
         return (Next::Done(ended, LastLeave::of_none()), Step::Over);
     }
-    if waits {
-        let left = worker.leave(&talk.answers, talk.session, &mut talk.share);
-        return (Next::Done(ended, left), Step::Over);
-    }
-    let left = worker.try_leave(&talk.answers, talk.session, &mut talk.share);
+    let left = try_leave(clerk, &talk.answers, talk.session, &mut talk.share);
     let why = match left {
         Ok(left) => return (Next::Done(ended, left), Step::Over),
         Err(why) => why,
@@ -452,9 +428,33 @@ fn leave<D: Device, S: Tally, T: Tally, A: Allocator + Copy, G: Gate, H: Wait>(
     (Next::Takes(Turn::Over(ended)), Step::Waits)
 }
 
+// Stages a last leave of the session that the answers leave open, and forgets its ticket. Else it says why none is staged. If the vault
+// is broken, the session stays open; for any other cause it may be tried again.
+fn try_leave<D: Device, S: Tally, T: Tally, A: Allocator + Copy, G: Gate, H: Wait>(
+    clerk: &Clerk<'_, D, S, T, A, G, H>,
+    answers: &Answers<A>,
+    session: u32,
+    share: &mut Share<S, T>,
+) -> Result<LastLeave, NotStaged>
+    requires { session ≡ session_of 0 answers.now.outs }
+    ensures left { IfOk result (λ left. left ≡ session) }
+    ensures staged { OnOk result (share.new ≡ record share.old { staged = share.old.staged + 1 }) }
+    ensures refused { OnErr result (share.new ≡ share.old) }
+    ensures counted { Counts share.old 0 1 share.new }
+{
+    match clerk.try_stage(session, Command::Leave, share) {
+        Ok(ticket) => {
+            let left = LastLeave::staged(&ticket, session);
+            clerk.forget(ticket);
+            Ok(left)
+        }
+        Err(why) => Err(why),
+    }
+}
+
 // How a conversation ends if it is given up at this turn.
 fn end_turn<D: Device, S: Tally, T: Tally, A: Allocator + Copy, G: Gate, H: Wait>(
-    worker: &Worker<'_, D, S, T, A, G, H>,
+    clerk: &Clerk<'_, D, S, T, A, G, H>,
     turn: Turn<A>,
 ) -> Ended
     ensures { (reader_old reader_new writer_old writer_new : Option (List ℕ)) (counts : Totals) (inflow : Inflow) (kept : List ℕ) (is_long : Bool)
@@ -465,11 +465,11 @@ fn end_turn<D: Device, S: Tally, T: Tally, A: Allocator + Copy, G: Gate, H: Wait
     match turn {
         Turn::Hear => Ended::Read,
         Turn::Keep(kept) => {
-            worker.stops_waiting(kept);
+            clerk.stops_waiting(kept);
             Ended::Read
         }
         Turn::Wait(ticket) => {
-            worker.forget(ticket);
+            clerk.forget(ticket);
             Ended::NoMemory
         }
         Turn::Tell(telling) => end_telling(&telling),
@@ -509,7 +509,7 @@ fn let_go<A: Allocator>(next: Next<A>) -> Next<A>
 
 // What comes next once it is given up.
 fn give_up<D: Device, S: Tally, T: Tally, A: Allocator + Copy, G: Gate, H: Wait>(
-    worker: &Worker<'_, D, S, T, A, G, H>,
+    clerk: &Clerk<'_, D, S, T, A, G, H>,
     next: Next<A>,
 ) -> Next<A>
     ensures stands { (reader_old reader_new writer_old writer_new : Option (List ℕ)) (counts : Totals) (inflow : Inflow) (kept : List ℕ) (is_long : Bool)
@@ -520,7 +520,7 @@ fn give_up<D: Device, S: Tally, T: Tally, A: Allocator + Copy, G: Gate, H: Wait>
     ensures ended { (has_ended result ≡ true) × (is_done result ≡ is_done next) }
 {
     match next {
-        Next::Takes(turn) => Next::GivenUp(end_turn(worker, turn)),
+        Next::Takes(turn) => Next::GivenUp(end_turn(clerk, turn)),
         Next::GivenUp(ended) => Next::GivenUp(ended),
         Next::Done(ended, left) => Next::Done(ended, left),
         Next::TakenOut => Next::TakenOut,

@@ -3,10 +3,10 @@ ghost use Rattle.std.specs.Prelude.{◌≡◌};
 ghost use Rattle.vault_model.specs.declared.commands.Command.TheVariants.{Leave};
 ghost use Rattle.vault_model.specs.declared.replies.Outside.TheVariants.{Broken};
 
-use crate::cause::NotStaged;
 use group_commit::Ticket;
 use std::alloc::Allocator;
 use std::marker::Model;
+use vault_desk::NotStaged;
 
 /// What a conversation needs to be over: its session has its last leave, or can't get one. It is made only where no session is open,
 /// from the ticket of a leave, or from the refusal of a vault that is broken. Contracts see the session's number, 0 for none.

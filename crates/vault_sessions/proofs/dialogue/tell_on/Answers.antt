@@ -1,6 +1,6 @@
 use Rattle.std.proofs.Common.{rules}
-use Rattle.vault_sessions.specs.declared.turn.Turn.TheVariants.{Tell}
-use Rattle.vault_sessions.proofs.Talks.{told_on}
+use Rattle.vault_desk.specs.declared.turn.Turn.TheVariants.{Tell}
+use Rattle.vault_desk.proofs.Talks.{told_on}
 use Rattle.vault_sessions.proofs.Dialogues.{tells_no_more}
 use Rattle.vault_sessions.proofs.dialogue.tell_on.Goals as goal
 

@@ -1,0 +1,11 @@
+pub mod AtDesk
+pub mod Tallies
+pub mod Acts
+pub mod Pumping
+pub mod Serving
+pub mod Talking
+pub mod Answered
+pub mod Logs
+pub mod Waiting
+pub mod Lost
+pub mod Looking

@@ -1,5 +1,0 @@
-use Rattle.vault_sessions.proofs.Acts.{acts_are_a_run}
-use Rattle.vault_sessions.proofs.laws.acts_are_a_run.Goals as goal
-
-pub returns : goal.returns
-returns c = acts_are_a_run
