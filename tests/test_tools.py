@@ -669,11 +669,11 @@ class Gate(unittest.TestCase):
                 self.assertNotIn("around", " ".join(tests))
 
     def test_one_that_fails(self) -> None:
-        """Its count and its status are the gate's; programs aren't refused then, and the others run."""
+        """Its count and its status are the gate's; programs aren't refused then, if that hadn't begun, and the others run."""
         self.write("tools/check-python", "echo '1 passed, 1 failed'", "exit 3")
         status, lines = self.ended()
         parts = lines.count("2 passed, 0 failed")
-        self.assertIn(parts, (3, 4))
+        self.assertIn(parts, (3, 4, 5))
         self.assertEqual((status, lines[-1]), (3, f"{2 * parts + 1} passed, 1 failed"))
 
     def test_one_that_breaks_off(self) -> None:
