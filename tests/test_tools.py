@@ -676,6 +676,14 @@ class Gate(unittest.TestCase):
         self.assertIn(parts, (3, 4, 5))
         self.assertEqual((status, lines[-1]), (3, f"{2 * parts + 1} passed, 1 failed"))
 
+    def test_refused_beside_the_proofs(self) -> None:
+        """With four processors, what must not compile is tried once the server is proved, while `rt ci` runs on."""
+        self.write("tools/try-refused", f"touch {self.folder}/refused", self.PASSED)
+        self.write("rt", "echo 'rt: vault_server proved'", "for step in $(seq 50); do", f"  [ ! -e {self.folder}/refused ] || break",
+                   "  sleep 0.2", "done", f"[ ! -e {self.folder}/refused ] || echo 'rt: beside'", self.PASSED)
+        status, lines = self.ended()
+        self.assertEqual((status, "rt: beside" in lines), (0, len(os.sched_getaffinity(0)) >= 4), lines)
+
     def test_one_that_breaks_off(self) -> None:
         """A part without a count is a failure."""
         self.write("rt", "echo 'rt: vault_server proved'", "kill -KILL $$")
