@@ -169,7 +169,7 @@ class Quick(unittest.TestCase):
 
     def test_full(self) -> None:
         """4,096 places and 256 claims show within a second, by a page that has just been started: also by the time of processors that the
-        browser, the page and the server take, which other work on the machine doesn't make longer."""
+        browser, the page and the server take. Other work makes that longer, too, where two threads share a core."""
         server = Server("--workers", "32", folder=MEMORY)
         self.addCleanup(server.close)
         server.start()
@@ -200,7 +200,7 @@ class Quick(unittest.TestCase):
         print(f"[painted after {min(painted):.0f} to {max(painted):.0f} ms, {min(taken):.2f} to {max(taken):.2f} s of processors]", end=" ",
               flush=True)
         self.assertLess(min(painted), 1000 * soon())
-        self.assertLess(min(taken), 1.0)
+        self.assertLess(min(taken), soon())
 
 
 if __name__ == "__main__":
