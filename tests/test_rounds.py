@@ -54,6 +54,10 @@ class Snapshots(unittest.TestCase):
     """A snapshot that is wanted begins in a pause, or else once the journal has half the length that the last snapshot had."""
 
     def setUp(self) -> None:
+        self.serve_anew()
+
+    def serve_anew(self) -> None:
+        """A server over a new vault."""
         self.server = Server(folder=MEMORY)
         self.addCleanup(self.server.close)
         self.server.start()
@@ -133,9 +137,11 @@ class Snapshots(unittest.TestCase):
         self.assertGreaterEqual(self.changes(found["generation"]) - asker.asked[-1][0], PAUSE)
 
     def test_behind_a_long_journal(self) -> None:
-        """While questions come, it begins once the journal is half as long as the last snapshot."""
-        asker = self.ask_on()
+        """While questions come, it begins once the journal is half as long as the last snapshot. Each try has a vault, which three would fill."""
         for _ in range(TRIES):
+            self.server.close()
+            self.serve_anew()
+            asker = self.ask_on()
             began = time.monotonic()
             found = self.save_until(5 * MIB // 2, MIB)
             for _ in range(found["snapshot"] // 2 // (PARTS * CONTENT) + 1):
@@ -144,6 +150,8 @@ class Snapshots(unittest.TestCase):
                 self.save()
             self.changes(found["generation"])
             longest = asker.longest(began)
+            asker.over.set()
+            asker.join()
             if longest < PAUSE:
                 break
         self.assertLess(longest, PAUSE, "this machine makes pauses of its own")
