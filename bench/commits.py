@@ -8,8 +8,10 @@ on a file system in memory that is the whole sync. The limit is then what the fo
 With --floor the load meets a program that keeps nothing, and answers each line after two sleeps (floor.c). This shows what the load and
 the machine leave to a server with one thread, or with one for each connection.
 
-usage, at the top of the repository:  python3 bench/commits.py [--program PROGRAM] [--folder FOLDER] [--clients 1,4,16,64] [--slow MS]
-                                      [--floor one|workers] [--rounds N] [--port P] [--tiny]
+With --before another program takes turns with this one, and each line ends with the cycles of this one for one of the other's.
+
+usage, at the top of the repository:  python3 bench/commits.py [--program PROGRAM] [--before PROGRAM] [--folder FOLDER] [--clients 1,4,16,64]
+                                      [--slow MS] [--floor one|workers] [--rounds N] [--port P] [--tiny]
 Needs gcc.
 """
 import json
@@ -93,6 +95,7 @@ def measured(program, folder, options, load, clients, before=(), most=MAX_CYCLES
 
 def main():
     parser = arguments("How commits gather.")
+    parser.add_argument("--before", help="a program to run by turns with this one")
     parser.add_argument("--clients", default="1,4,16,64", help="numbers of clients, with commas between; 64 at most")
     parser.add_argument("--slow", type=float, default=0, help="how many milliseconds longer each sync takes")
     parser.add_argument("--floor", choices=("one", "workers"), help="in place of the server a program that keeps nothing, of one thread or many")
@@ -106,13 +109,18 @@ def main():
     who = f"what keeps nothing ({options.floor})" if options.floor else f"{PARTS} workers"
     head(program, f"{who}, syncs {options.slow:g} ms longer, medians of {options.rounds} runs")
 
+    programs = [program] + ([os.path.abspath(options.before)] if options.before else [])
+
     def rows():
         for clients in map(int, options.clients.split(",")):
-            runs = [measured(program, folder, options, load, clients) for _ in range(options.rounds)]
+            rounds = [[measured(each, folder, options, load, clients) for each in programs] for _ in range(options.rounds)]
+            runs, before = (list(zip(*rounds)) + [()])[:2]
             rate, median, late, used = (statistics.median(run[key] for run in runs) for key in ("rate", "p50_us", "p99_us", "cpu_us"))
             yield (str(clients), f"{rate:,.0f}", f"{median / 1000:.2f} and {late / 1000:.1f} ms",
-                   f"{min(run['least'] for run in runs)} to {max(run['greatest'] for run in runs)}", f"{used:.0f} µs")
-    table(("Clients", "Cycles a second", "Median and 99th percentile of a cycle", "Cycles of a client", "Processor time a cycle"), rows())
+                   f"{min(run['least'] for run in runs)} to {max(run['greatest'] for run in runs)}", f"{used:.0f} µs",
+                   *([f"{rate / statistics.median(run['rate'] for run in before):.3f}"] if before else []))
+    names = ("Clients", "Cycles a second", "Median and 99th percentile of a cycle", "Cycles of a client", "Processor time a cycle")
+    table((*names, "Cycles for one before") if options.before else names, rows())
 
 
 if __name__ == "__main__":

@@ -36,7 +36,7 @@ NOT_RUN = {("docs/SIMULATION.md", "cd crates/vault_simulation"): "needs the prov
            ("contrib/replicated/README.md", "./volume vault"): "needs three nodes: tests/by_hand/replicated makes them",
            ("contrib/replicated/README.md", "cd /usr/share/vaultd/replicated"): "needs two machines: tests/by_hand/replicated makes them"}
 # Programs of bench/ that no test runs.
-BENCH_NOT_RUN = {"bench/line.py": "proves the crates of a commit from nothing"}
+BENCH_NOT_RUN = {"bench/line.py": "proves the crates of a commit from nothing", "bench/gates.py": "runs two gates from nothing"}
 # A name of code in a span: with an underscore, or of two words as types have it.
 NAME = re.compile(r"(?<![}\w])(?:[A-Za-z]\w*_\w+|[A-Z][a-z]+[A-Z]\w*)")
 # Names from elsewhere: of the language's library and tools, of the kernel, of a cluster's fences; and one of an example.
