@@ -102,23 +102,24 @@ def main():
     parser.add_argument("--rounds", type=int, default=3, help="how many runs a line has; it shows their medians")
     parser.add_argument("--port", type=int, default=7373)
     options = parser.parse_args()
+    if options.before and options.floor:
+        parser.error("--before runs two programs, and --floor none: give one of them")
     program, folder = prepared(options)
+    programs = [program, os.path.abspath(options.before)] if options.before else [program]
     load = made(folder, "load")
     made(folder, "slow_sync", "-shared", "-fPIC")
     made(folder, "floor")
     who = f"what keeps nothing ({options.floor})" if options.floor else f"{PARTS} workers"
     head(program, f"{who}, syncs {options.slow:g} ms longer, medians of {options.rounds} runs")
 
-    programs = [program] + ([os.path.abspath(options.before)] if options.before else [])
-
     def rows():
         for clients in map(int, options.clients.split(",")):
             rounds = [[measured(each, folder, options, load, clients) for each in programs] for _ in range(options.rounds)]
-            runs, before = (list(zip(*rounds)) + [()])[:2]
+            runs, before = [each[0] for each in rounds], [each[-1]["rate"] for each in rounds]
             rate, median, late, used = (statistics.median(run[key] for run in runs) for key in ("rate", "p50_us", "p99_us", "cpu_us"))
             yield (str(clients), f"{rate:,.0f}", f"{median / 1000:.2f} and {late / 1000:.1f} ms",
                    f"{min(run['least'] for run in runs)} to {max(run['greatest'] for run in runs)}", f"{used:.0f} µs",
-                   *([f"{rate / statistics.median(run['rate'] for run in before):.3f}"] if before else []))
+                   *([f"{rate / statistics.median(before):.3f}"] if options.before else []))
     names = ("Clients", "Cycles a second", "Median and 99th percentile of a cycle", "Cycles of a client", "Processor time a cycle")
     table((*names, "Cycles for one before") if options.before else names, rows())
 

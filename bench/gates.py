@@ -7,7 +7,7 @@ minutes, those less what the host took, and what was proved then, what a longer 
 network, or a machine without pauses, fails in it: its figures are the minutes.
 
 usage, as root: python3 bench/gates.py FOLDER NAME=CLONE NAME=CLONE [--slice SECONDS]     FOLDER is made, and keeps each gate's output
-Needs cgroup v1's cpu, clones with nothing in them but what git has, and /opt/rattle-kept away. Takes twice as long as a gate.
+Needs cgroup v1's cpu, two clones with nothing in them but what git has, and no /opt/rattle-kept. Takes twice as long as a gate.
 """
 import argparse
 import contextlib
@@ -21,10 +21,10 @@ from pathlib import Path
 from typing import Dict, List, Tuple
 
 CPU = Path("/sys/fs/cgroup/cpu")
-KEPT = Path("/opt/rattle-kept")
+KEPT, TMP = Path("/opt/rattle-kept"), Path("/tmp")
 TICKS = os.sysconf("SC_CLK_TCK")
 PERIOD, LITTLE = "1000000", "1000"
-INSIDE = f'mount --bind "$0/kept" {KEPT} && mount --bind "$0/tmp" /tmp && ip link set lo up && cd "$1" && CI=true exec bash .ci/run'
+INSIDE = f'mount --bind "$0/kept" {KEPT} && mount --bind "$0/tmp" {TMP} && ip link set lo up && cd "$1" && CI=true exec bash .ci/run'
 SAID = re.compile(r"^(?:rt: \w+ proved|rt: \w+ NOT PROVED.*|ci: .* seconds|\d+ passed, \d+ failed)$", re.MULTILINE)
 # A check that took so many seconds of a processor is told.
 LONGER = 10
@@ -41,7 +41,7 @@ def ticks() -> Tuple[int, int]:
 class Gate:
     """One gate, in a group whose share of the processors can be taken away."""
 
-    def __init__(self, folder: Path, name: str, clone: str):
+    def __init__(self, folder: Path, name: str, clone: Path):
         self.name, self.own, self.less, self.told = name, 0.0, 0.0, 0
         self.checks: Dict[Tuple[str, str], Tuple[str, str, float]] = {}
         self.folder = folder / name
@@ -52,7 +52,7 @@ class Gate:
         self.group.mkdir()
         (self.group / "cpu.cfs_period_us").write_text(PERIOD, "ascii")
         self.turn(False)
-        words = ["unshare", "-mn", "--propagation", "private", "bash", "-c", INSIDE, str(self.folder), os.path.abspath(clone)]
+        words = ["unshare", "-mn", "--propagation", "private", "bash", "-c", INSIDE, str(self.folder), str(clone)]
         with open(self.folder / "gate.log", "wb") as log:
             self.process = subprocess.Popen(["bash", "-c", 'echo $$ > "$0" && exec "$@"', str(self.group / "cgroup.procs"), *words],
                                             stdin=subprocess.DEVNULL, stdout=log, stderr=subprocess.STDOUT, start_new_session=True)
@@ -134,20 +134,34 @@ def take_turns(gates: List[Gate], seconds: float) -> None:
         gate.say(f"ended with {gate.process.returncode}")
 
 
+def named(word: str) -> Tuple[str, Path]:
+    """A gate's name and its clone, as a word of the command line has them."""
+    name, equals, clone = word.partition("=")
+    folder = Path(clone).resolve()
+    if not name.isalnum() or not equals or not clone or not (folder / ".ci" / "run").is_file() or TMP in folder.parents:
+        raise argparse.ArgumentTypeError(f"{word}: write NAME=CLONE, a name of letters and digits and a folder with .ci/run, outside {TMP}")
+    return name, folder
+
+
 def main() -> None:
     parser = argparse.ArgumentParser(description="How long two gates take, by turns.")
     parser.add_argument("folder", type=Path)
-    parser.add_argument("gates", nargs=2, metavar="NAME=CLONE")
+    parser.add_argument("gates", nargs=2, metavar="NAME=CLONE", type=named)
     parser.add_argument("--slice", type=float, default=0.25, help="seconds of a turn, 0.25 where it isn't given")
     options = parser.parse_args()
-    if KEPT.exists() and any(KEPT.iterdir()):
-        raise SystemExit(f"{KEPT} is not empty: move it away, and back at the end")
-    KEPT.mkdir(exist_ok=True)
+    if not os.access(CPU / "cgroup.procs", os.W_OK):
+        raise SystemExit(f"{CPU} can't be written: run it as root, where cgroup v1's cpu is mounted there")
+    if options.folder.exists():
+        raise SystemExit(f"{options.folder} is there: name a new folder")
+    if KEPT.exists():
+        raise SystemExit(f"{KEPT} is there: move it away, and back at the end")
     signal.signal(signal.SIGTERM, lambda *_: sys.exit(1))
     with contextlib.ExitStack() as at_the_end:
+        KEPT.mkdir()
+        at_the_end.callback(KEPT.rmdir)
         gates = []
-        for gate in options.gates:
-            gates.append(Gate(options.folder.resolve(), *gate.split("=", 1)))
+        for name, clone in options.gates:
+            gates.append(Gate(options.folder.resolve(), name, clone))
             at_the_end.callback(gates[-1].end)
         take_turns(gates, options.slice)
 
