@@ -114,8 +114,11 @@ def main():
 
     def rows():
         for clients in map(int, options.clients.split(",")):
-            rounds = [[measured(each, folder, options, load, clients) for each in programs] for _ in range(options.rounds)]
-            runs, before = [each[0] for each in rounds], [each[-1]["rate"] for each in rounds]
+            of_each = {each: [] for each in programs}
+            for turn in range(options.rounds):
+                for each in programs[::-1] if turn % 2 else programs:
+                    of_each[each].append(measured(each, folder, options, load, clients))
+            runs, before = of_each[program], [run["rate"] for run in of_each[programs[-1]]]
             rate, median, late, used = (statistics.median(run[key] for run in runs) for key in ("rate", "p50_us", "p99_us", "cpu_us"))
             yield (str(clients), f"{rate:,.0f}", f"{median / 1000:.2f} and {late / 1000:.1f} ms",
                    f"{min(run['least'] for run in runs)} to {max(run['greatest'] for run in runs)}", f"{used:.0f} µs",
