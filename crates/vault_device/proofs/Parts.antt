@@ -54,7 +54,7 @@ part_more {E} at done from bytes rest moved old mid new within le place is-rest 
     more : IsPartWrite {E = E} (at + done) (drop done bytes) (Ok moved) mid new
     more = at_rest_of at done from bytes rest (Ok moved) mid new place is-rest wrote
 
-pub part_fails : {E : Type 0} (at done from : ℕ) (bytes rest : List ℕ) (e : E) (result : Result (Unit {0}) E) (old mid new : Disk) → IsErr result → done ≤ length bytes → from ≡ at + done → rest ≡ drop done bytes → HasPart at done bytes old mid
+pub part_fails : {E F : Type 0} (at done from : ℕ) (bytes rest : List ℕ) (e : E) (result : Result (Unit {0}) F) (old mid new : Disk) → IsErr result → done ≤ length bytes → from ≡ at + done → rest ≡ drop done bytes → HasPart at done bytes old mid
     → IsPartWrite from rest (Err e) mid new → IsWrite at bytes result old new
 part_fails at done from bytes rest e (Err f) old mid new failed le place is-rest part wrote = record {
   shown = tt;

@@ -2,12 +2,19 @@
 ghost use Rattle.std.specs.Prelude.{◌≡◌, ◌≤◌, ◌<◌, ◌+◌, ◌^◌, IsTrue, IfOk, OnOk, length, slice_range};
 ghost use Rattle.vault_device.specs.Disk.{Disk, IsOneCall, IsRead, IsWrite, IsSync, IsLawful};
 
+use std::io;
 use thiserror::Error;
 
 /// The device did not do what it was asked.
 #[derive(Clone, Copy, Debug, PartialEq, Eq, Error)]
 #[error("device fault")]
 pub struct Fault;
+
+impl From<io::Error> for Fault {
+    fn from(_error: io::Error) -> Fault {
+        Fault
+    }
+}
 
 /// A disk. Each of the four calls is one device call, which is counted.
 pub trait Device {

@@ -1,6 +1,6 @@
 //! The device over a file.
-ghost use Rattle.std.specs.Prelude.{◌≡◌, ◌≤◌, ◌<◌, ◌+◌, ◌^◌, ◌⊎◌, min, IsTrue, IsErr, OnOk, OnErr, length, slice_range};
-ghost use Rattle.vault_device.specs.Disk.{IsRead, IsWrite, last_count};
+ghost use Rattle.std.specs.Prelude.{◌≡◌, ◌≤◌, ◌<◌, ◌+◌, ◌^◌, ◌⊎◌, min, IsTrue, IsErr, IfOk, OnOk, OnErr, length, slice_range};
+ghost use Rattle.vault_device.specs.Disk.{IsRead, IsWrite, IsSync, last_count};
 ghost use Rattle.vault_device.specs.RawFile.{FileDisk, counted, counted_lawful};
 
 use crate::raw_file::RawFile;
@@ -69,6 +69,24 @@ fn write_all<F: RawFile>(file: &mut F, at: u64, text: &[u8]) -> Result<(), Fault
     Err(Fault)
 }
 
+// How many bytes there are.
+fn length_of<F: RawFile>(file: &mut F) -> Result<u64, Fault>
+    ensures honesty { (F.bytes file.new).honest ≡ (F.bytes file.old).honest }
+    ensures kept { IsTrue (F.bytes file.old).honest → IsRead (F.bytes file.old) (F.bytes file.new) }
+    ensures length { IsTrue (F.bytes file.old).honest → IfOk result (λ n. n ≡ length (F.bytes file.old).shown) }
+{
+    Ok(file.len()?)
+}
+
+// Makes bytes and length durable.
+fn settle_all<F: RawFile>(file: &mut F) -> Result<(), Fault>
+    ensures honesty { (F.bytes file.new).honest ≡ (F.bytes file.old).honest }
+    ensures sync { IsTrue (F.bytes file.old).honest → IsSync result (F.bytes file.old) (F.bytes file.new) }
+{
+    file.settle()?;
+    Ok(())
+}
+
 // Counts one call, and a fault if it failed.
 fn count<T>(calls: &mut u64, faults: &mut u64, answer: &Result<T, Fault>)
     ensures calls { calls.new ≡ min (calls.old + 1) last_count }
@@ -99,7 +117,7 @@ impl<F: RawFile> Device for FileDevice<F> {
     ghost lawful = { λ d honest. counted_lawful (F.bytes d.file) d.calls d.faults (F.lawful d.file honest) };
 
     fn len(&mut self) -> Result<u64, Fault> {
-        let answer = self.file.len();
+        let answer = length_of(&mut self.file);
         count(&mut self.calls, &mut self.faults, &answer);
         answer
     }
@@ -117,7 +135,7 @@ impl<F: RawFile> Device for FileDevice<F> {
     }
 
     fn sync(&mut self) -> Result<(), Fault> {
-        let answer = self.file.settle();
+        let answer = settle_all(&mut self.file);
         count(&mut self.calls, &mut self.faults, &answer);
         answer
     }

@@ -1,27 +1,26 @@
 //! A file through system calls.
-ghost use Rattle.std.specs.Prelude.{◌≡◌, ◌≢◌, ◌≤◌, ◌<◌, ◌+◌, ◌^◌, IsTrue, IsErr, IfOk, IfErr, length, take, slice_range, unwrap_or};
+ghost use Rattle.std.specs.Prelude.{◌≡◌, ◌≢◌, ◌≤◌, ◌<◌, ◌+◌, ◌^◌, IsTrue, IfOk, IfErr, Ok, Err, Some, None, length, take, slice_range, unwrap_or};
 ghost use Rattle.std.specs.IoError.{error_kind};
 ghost use Rattle.vault_device.specs.Disk.{Disk, IsRead, IsSync, IsLawful};
 ghost use Rattle.vault_device.specs.RawFile.{IsPartWrite, unknown, unknown_lawful};
 
-use crate::Fault;
 use std::fs::File;
 use std::io;
 use std::io::ErrorKind;
 use std::os::unix::fs::FileExt;
 
-/// A file through system calls, each of which may move fewer bytes than asked. `FileDevice` makes a device of it.
+/// A file through system calls, each of which may move fewer bytes than asked, and says why it failed. `FileDevice` makes a device of it.
 pub trait RawFile {
     ghost bytes: { Self → Disk };
 
     /// How many bytes there are.
-    fn len(&mut self) -> Result<u64, Fault>
+    fn len(&mut self) -> io::Result<u64>
         ensures honesty { (bytes self.new).honest ≡ (bytes self.old).honest }
         ensures kept { IsTrue (bytes self.old).honest → IsRead (bytes self.old) (bytes self.new) }
         ensures length { IsTrue (bytes self.old).honest → IfOk result (λ n. n ≡ length (bytes self.old).shown) };
 
     /// Reads some bytes to the buffer's front, and says how many; `None` where a signal came first.
-    fn read_some(&mut self, at: u64, buffer: &mut [u8]) -> Result<Option<usize>, Fault>
+    fn read_some(&mut self, at: u64, buffer: &mut [u8]) -> io::Result<Option<usize>>
         requires { IsTrue (bytes self.old).honest → at + length buffer.old ≤ length (bytes self.old).shown }
         ensures honesty { (bytes self.new).honest ≡ (bytes self.old).honest }
         ensures bound { IfOk result (λ moved. unwrap_or moved 0 ≤ length buffer.old) }
@@ -30,7 +29,7 @@ pub trait RawFile {
             → IfOk result (λ moved. take (unwrap_or moved 0) buffer.new ≡ slice_range (bytes self.old).shown at (at + unwrap_or moved 0)) };
 
     /// Writes some bytes from the front, and says how many; `None` where a signal came first.
-    fn write_some(&mut self, at: u64, text: &[u8]) -> Result<Option<usize>, Fault>
+    fn write_some(&mut self, at: u64, text: &[u8]) -> io::Result<Option<usize>>
         requires begin { IsTrue (bytes self.old).honest → at ≤ length (bytes self.old).shown }
         requires end { IsTrue (bytes self.old).honest → at + length text.now < 2 ^ 63 }
         ensures honesty { (bytes self.new).honest ≡ (bytes self.old).honest }
@@ -38,7 +37,7 @@ pub trait RawFile {
         ensures write { IsTrue (bytes self.old).honest → IsPartWrite at text.now result (bytes self.old) (bytes self.new) };
 
     /// Makes bytes and length durable.
-    fn settle(&mut self) -> Result<(), Fault>
+    fn settle(&mut self) -> io::Result<()>
         ensures honesty { (bytes self.new).honest ≡ (bytes self.old).honest }
         ensures sync { IsTrue (bytes self.old).honest → IsSync result (bytes self.old) (bytes self.new) };
 
@@ -47,10 +46,10 @@ pub trait RawFile {
 }
 
 // What a call moved; an interrupted one moved nothing.
-fn moved(answer: io::Result<usize>) -> Result<Option<usize>, Fault>
+fn moved(answer: io::Result<usize>) -> io::Result<Option<usize>>
     ensures moved { IfOk answer (λ count. result ≡ Ok (Some count)) }
     ensures interrupted { IfErr answer (λ e. error_kind e ≡ ErrorKind.Interrupted → result ≡ Ok None) }
-    ensures failed { IfErr answer (λ e. error_kind e ≢ ErrorKind.Interrupted → IsErr result) }
+    ensures failed { IfErr answer (λ e. error_kind e ≢ ErrorKind.Interrupted → result ≡ Err e) }
 {
     match answer {
         Ok(count) => Ok(Some(count)),
@@ -58,7 +57,7 @@ fn moved(answer: io::Result<usize>) -> Result<Option<usize>, Fault>
             if error.kind() == ErrorKind::Interrupted {
                 return Ok(None);
             }
-            Err(Fault)
+            Err(error)
         }
     }
 }
@@ -69,26 +68,20 @@ impl RawFile for File {
 
     ghost lawful = { λ file honest. unknown_lawful honest };
 
-    fn len(&mut self) -> Result<u64, Fault> {
-        match self.metadata() {
-            Ok(metadata) => Ok(metadata.len()),
-            Err(_) => Err(Fault),
-        }
+    fn len(&mut self) -> io::Result<u64> {
+        Ok(self.metadata()?.len())
     }
 
-    fn read_some(&mut self, at: u64, buffer: &mut [u8]) -> Result<Option<usize>, Fault> {
+    fn read_some(&mut self, at: u64, buffer: &mut [u8]) -> io::Result<Option<usize>> {
         moved(self.read_at(buffer, at))
     }
 
-    fn write_some(&mut self, at: u64, text: &[u8]) -> Result<Option<usize>, Fault> {
+    fn write_some(&mut self, at: u64, text: &[u8]) -> io::Result<Option<usize>> {
         moved(self.write_at(text, at))
     }
 
     // Of std's two sync calls, this one makes the length durable too, on any file system.
-    fn settle(&mut self) -> Result<(), Fault> {
-        match self.sync_all() {
-            Ok(()) => Ok(()),
-            Err(_) => Err(Fault),
-        }
+    fn settle(&mut self) -> io::Result<()> {
+        self.sync_all()
     }
 }

@@ -1,10 +1,10 @@
 //! Making a vault in two files.
 
 use crate::failure::Failure;
-use crate::files::{device_over, lock, unopened};
+use crate::files::{device_over, lock, open_as_it_is, unopened};
 use crate::standard::print_line;
 use crate::teller::Teller;
-use std::fs::{self, File, OpenOptions};
+use std::fs::{self, File};
 use std::io::{self, ErrorKind};
 use vault_store::Store;
 
@@ -17,9 +17,7 @@ struct Opened {
 
 /// Opens a file, or makes it if it is missing.
 fn open_or_make(rt: &HostRuntime, path: &str) -> io::Result<Opened> {
-    let mut options = OpenOptions::new();
-    options.read(true).write(true);
-    match options.open(rt, path) {
+    match open_as_it_is(rt, path) {
         Ok(file) => Ok(Opened { file, made: false }),
         Err(error) if error.kind() == ErrorKind::NotFound => {
             let file = File::create_new(rt, path)?;

@@ -1,87 +1,72 @@
 //! The files of a vault, which are locked while the program has them.
-ghost use Rattle.std.specs.Prelude.{◌≡◌, ◌≢◌, IfErr, IfOk, IsErr, Ok, Some, None};
-ghost use Rattle.std.specs.IoError.{error_kind};
-ghost use Rattle.vault_device.specs.RawFile.{unknown, unknown_lawful};
+ghost use Rattle.std.specs.Prelude.{◌≡◌, true};
+ghost use Rattle.std.specs.Fs.{new_options, with_read, with_write};
 
 use crate::failure::Failure;
+use crate::pair::Pair;
 use crate::reason::{Action, Cause, Subject};
 use crate::teller::Teller;
 use std::fs::{File, OpenOptions, TryLockError};
-use std::io::{self, ErrorKind};
-use std::os::unix::fs::FileExt;
+use std::io;
 use std::rt::Files;
-use vault_device::{Fault, FileDevice, RawFile};
+use vault_device::{FileDevice, RawFile};
 
-/// A file that reports each failed call to the teller.
+/// A file that hands each call on to another one, and reports to the teller if that failed.
 #[derive(Drop)]
-pub struct WatchedFile<'a, 'p, R> {
-    file: File,
+pub struct WatchedFile<'a, 'p, R, F = File> {
+    file: F,
     path: &'p str,
     teller: &'a Teller<'p, R>,
 }
 
-impl<R: Eprint> WatchedFile<'_, '_, R> {
+impl<R: Eprint, F> WatchedFile<'_, '_, R, F> {
     fn note(&self, action: Action, cause: Cause) {
         self.teller.note(Subject::File(self.path), action, cause);
     }
 
-    // Notes that a call failed.
-    fn fail(&self, action: Action, error: io::Error) -> Fault {
-        self.note(action, Cause::System(error));
-        Fault
+    // Reports a call that failed.
+    fn note_failure<T>(&self, action: Action, answer: &io::Result<T>) {
+        if let Err(error) = answer {
+            self.note(action, Cause::System(*error));
+        }
     }
 
-    // How many bytes a call moved. An interrupted one moved none.
-    fn moved(&self, action: Action, answer: io::Result<usize>) -> Result<Option<usize>, Fault>
-        ensures moved { IfOk answer (λ count. result ≡ Ok (Some count)) }
-        ensures interrupted { IfErr answer (λ e. error_kind e ≡ ErrorKind.Interrupted → result ≡ Ok None) }
-        ensures failed { IfErr answer (λ e. error_kind e ≢ ErrorKind.Interrupted → IsErr result) }
-    {
+    // Reports a call that failed, or that moved no byte although no signal came.
+    fn note_moved(&self, action: Action, answer: &io::Result<Option<usize>>) {
         match answer {
-            Ok(count) => {
-                if count == 0 {
-                    self.note(action, Cause::Ended);
-                }
-                Ok(Some(count))
-            }
-            Err(error) => {
-                if error.kind() == ErrorKind::Interrupted {
-                    return Ok(None);
-                }
-                Err(self.fail(action, error))
-            }
+            Ok(Some(0)) => self.note(action, Cause::Ended),
+            _ => self.note_failure(action, answer),
         }
     }
 }
 
-// The calls of `File`'s own device. Nothing is claimed of the bytes here, either.
-impl<R: Eprint> RawFile for WatchedFile<'_, '_, R> {
-    ghost bytes = { λ file. unknown };
+impl<R: Eprint, F: RawFile> RawFile for WatchedFile<'_, '_, R, F> {
+    ghost bytes = { λ watched. F.bytes watched.file };
 
-    ghost lawful = { λ file honest. unknown_lawful honest };
+    ghost lawful = { λ watched honest. F.lawful watched.file honest };
 
-    fn len(&mut self) -> Result<u64, Fault> {
-        match self.file.metadata() {
-            Ok(metadata) => Ok(metadata.len()),
-            Err(error) => Err(self.fail(Action::Measured, error)),
-        }
+    fn len(&mut self) -> io::Result<u64> {
+        let answer = self.file.len();
+        self.note_failure(Action::Measured, &answer);
+        answer
     }
 
-    fn read_some(&mut self, at: u64, buffer: &mut [u8]) -> Result<Option<usize>, Fault> {
-        let answer = self.file.read_at(buffer, at);
-        self.moved(Action::ReadAt(at), answer)
+    fn read_some(&mut self, at: u64, buffer: &mut [u8]) -> io::Result<Option<usize>> {
+        let answer = self.file.read_some(at, buffer);
+        self.note_moved(Action::ReadAt(at), &answer);
+        answer
     }
 
-    fn write_some(&mut self, at: u64, text: &[u8]) -> Result<Option<usize>, Fault> {
-        let answer = self.file.write_at(text, at);
-        self.moved(Action::WrittenAt(at), answer)
+    fn write_some(&mut self, at: u64, text: &[u8]) -> io::Result<Option<usize>> {
+        let answer = self.file.write_some(at, text);
+        self.note_moved(Action::WrittenAt(at), &answer);
+        answer
     }
 
-    fn settle(&mut self) -> Result<(), Fault> {
-        match self.file.sync_all() {
-            Ok(()) => Ok(()),
-            Err(error) => Err(self.fail(Action::Synced, error)),
-        }
+    fn settle(&mut self) -> io::Result<()> {
+        let answer = self.file.settle();
+        self.note_failure(Action::Synced, &answer);
+        answer
     }
 }
 
@@ -122,19 +107,48 @@ pub(crate) fn lock<'p, R: Eprint>(
     Err(failure)
 }
 
-/// Opens a file of a vault for reading and writing, and locks it.
-pub fn open_locked<'a, 'p, R: Files<File = File> + Eprint>(
+// How a file of a vault is opened: for reading and writing, as it is. It isn't made, and not cut.
+fn as_it_is() -> OpenOptions
+    ensures { result ≡ with_write (with_read new_options true) true }
+{
+    let mut options = OpenOptions::new();
+    options.read(true).write(true);
+    options
+}
+
+/// Opens a file of a vault for reading and writing.
+pub(crate) fn open_as_it_is<R: Files<File = File>>(rt: &R, path: &str) -> io::Result<File> {
+    as_it_is().open(rt, path)
+}
+
+// Opens a file of a vault for reading and writing, and locks it.
+fn open_locked<'a, 'p, R: Files<File = File> + Eprint>(
     rt: &R,
     teller: &'a Teller<'p, R>,
     path: &'p str,
 ) -> Result<WatchedDevice<'a, 'p, R>, Failure> {
-    let mut options = OpenOptions::new();
-    options.read(true).write(true);
-    match options.open(rt, path) {
+    match open_as_it_is(rt, path) {
         Ok(file) => {
             lock(teller, path, &file)?;
             Ok(device_over(file, path, teller))
         }
         Err(error) => Err(unopened(teller, path, error)),
+    }
+}
+
+/// Opens the files of these two paths for reading and writing, and locks them. Files of two vaults are refused.
+pub fn open_pair<'a, 'p, R: Files<File = File> + Eprint + AllocGlobal>(
+    rt: &R,
+    teller: &'a Teller<'p, R>,
+    first: &'p str,
+    second: &'p str,
+) -> Result<Pair<WatchedDevice<'a, 'p, R>>, Failure> {
+    let first = open_locked(rt, teller, first)?;
+    match open_locked(rt, teller, second) {
+        Ok(second) => Pair::of(rt.alloc(), first, second),
+        Err(failure) => {
+            drop(first);
+            Err(failure)
+        }
     }
 }

@@ -13,7 +13,7 @@ use vault_store::BodyError;
 
 /// Refuses files of two vaults. They are read, and nothing is changed. Files that can't be read aren't refused here: opening reports an
 /// active one that can't be read, and doesn't need the other.
-pub fn refuse_two_vaults<D: Device, A: Allocator + Copy>(
+pub(crate) fn refuse_two_vaults<D: Device, A: Allocator + Copy>(
     alloc: A,
     first: &mut D,
     second: &mut D,

@@ -6,8 +6,8 @@ use std::fs::File;
 use std::net::{Net, TcpListener, TcpStream};
 use std::rt::Files;
 use vaultd_files::{
-    Action, Cause, Failure, Subject, Survey, Teller, WatchedDevice, open_locked, print_line,
-    refuse_two_vaults, take_survey,
+    Action, Cause, Failure, Subject, Survey, Teller, WatchedDevice, open_pair, print_line,
+    take_survey,
 };
 
 /// The number of the vault's life. The program opens one vault, once.
@@ -19,19 +19,8 @@ pub fn open_vault<'a, 'p, R: Files<File = File> + Eprint + AllocGlobal>(
     teller: &'a Teller<'p, R>,
     serving: &Serving<'p>,
 ) -> Result<(Vault<WatchedDevice<'a, 'p, R>>, Option<Survey>), Failure> {
-    let mut first = open_locked(rt, teller, serving.first)?;
-    let mut second = match open_locked(rt, teller, serving.second) {
-        Ok(second) => second,
-        Err(failure) => {
-            drop(first);
-            return Err(failure);
-        }
-    };
-    if let Err(failure) = refuse_two_vaults(rt.alloc(), &mut first, &mut second) {
-        drop(first);
-        drop(second);
-        return Err(failure);
-    }
+    let pair = open_pair(rt, teller, serving.first, serving.second)?;
+    let (mut first, mut second) = pair.into_devices();
     let survey = take_survey(rt.alloc(), teller, &mut first, &mut second);
     match Vault::open(rt.alloc(), first, second, LIFE) {
         Ok(vault) => Ok((vault, survey)),

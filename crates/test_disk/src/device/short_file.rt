@@ -1,6 +1,7 @@
 //! An honest file that moves few bytes at a time, and that a signal interrupts at every other call.
 ghost use Rattle.std.specs.Prelude.{◌≡◌};
 
+use std::io::{self, ErrorKind};
 use vault_device::{Device, Fault, RawFile};
 
 #[derive(Drop)]
@@ -21,36 +22,41 @@ impl<D: Device> ShortFile<D> {
     }
 }
 
+// Why a call of the file failed.
+fn why(_fault: Fault) -> io::Error {
+    io::Error::from(ErrorKind::Other)
+}
+
 impl<D: Device> RawFile for ShortFile<D> {
     ghost bytes = { λ f. D.disk f.device };
 
     ghost lawful = { λ f honest. D.lawful f.device honest };
 
-    fn len(&mut self) -> Result<u64, Fault> {
-        self.device.len()
+    fn len(&mut self) -> io::Result<u64> {
+        self.device.len().map_err(why)
     }
 
-    fn read_some(&mut self, at: u64, buffer: &mut [u8]) -> Result<Option<usize>, Fault> {
+    fn read_some(&mut self, at: u64, buffer: &mut [u8]) -> io::Result<Option<usize>> {
         self.interrupts = !self.interrupts;
         if self.interrupts {
             return Ok(None);
         }
         let count = buffer.len().min(3);
-        self.device.read_at(at, &mut buffer[..count])?;
+        self.device.read_at(at, &mut buffer[..count]).map_err(why)?;
         Ok(Some(count))
     }
 
-    fn write_some(&mut self, at: u64, text: &[u8]) -> Result<Option<usize>, Fault> {
+    fn write_some(&mut self, at: u64, text: &[u8]) -> io::Result<Option<usize>> {
         self.interrupts = !self.interrupts;
         if self.interrupts {
             return Ok(None);
         }
         let count = text.len().min(3);
-        self.device.write_at(at, &text[..count])?;
+        self.device.write_at(at, &text[..count]).map_err(why)?;
         Ok(Some(count))
     }
 
-    fn settle(&mut self) -> Result<(), Fault> {
-        self.device.sync()
+    fn settle(&mut self) -> io::Result<()> {
+        self.device.sync().map_err(why)
     }
 }
