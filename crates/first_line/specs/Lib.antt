@@ -1,1 +1,2 @@
 pub mod Foreign
+pub mod Own

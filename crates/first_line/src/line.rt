@@ -1,6 +1,7 @@
 //! The first line of a connection, byte by byte.
-ghost use Rattle.std.specs.Prelude.{◌≡◌, ◌≢◌, ◌↔◌, ℕ, List, [], ◌∷◌, ◌++◌, IsTrue, false};
+ghost use Rattle.std.specs.Prelude.{◌≡◌, ◌≢◌, ◌↔◌, ◌<◌, ◌≤◌, ℕ, List, [], ◌∷◌, ◌++◌, length, take, IsTrue};
 ghost use Rattle.first_line.specs.Foreign.{IsForeignBehind, HasMark, IsForeign};
+ghost use Rattle.first_line.specs.Own.{own_part};
 
 // The first byte of a TLS connection: a handshake.
 const HANDSHAKE: u8 = 0x16;
@@ -31,35 +32,49 @@ pub enum FirstLine {
 impl FirstLine {
     /// Nothing came.
     pub fn new() -> FirstLine
-        ensures { (bytes : List ℕ) → IsForeignBehind result bytes ↔ IsForeign bytes }
+        ensures nothing { result ≡ FirstLine.Nothing }
+        ensures foreign { (bytes : List ℕ) → IsForeignBehind result bytes ↔ IsForeign bytes }
     {
         FirstLine::Nothing
     }
 
-    /// What it is once these bytes came. With any further bytes, it is another protocol's exactly if the line before was, with these
-    /// bytes and then the further ones.
-    pub fn hear(self, bytes: &[u8]) -> FirstLine
-        ensures { (more : List ℕ) → IsForeignBehind self (bytes.now ++ more) ↔ IsForeignBehind result more }
+    /// How many of these bytes are the connection's own: those before the first one with which the line is another protocol's. Also what
+    /// the line is once they came.
+    pub fn take_own(self, bytes: &[u8]) -> (usize, FirstLine)
+        ensures heard { (more : List ℕ) → IsForeignBehind self (bytes.now ++ more) ↔ IsForeignBehind result.1 more }
+        ensures few { result.0 ≤ length bytes.now }
+        ensures own { (more : List ℕ) → own_part self (bytes.now ++ more) ≡ take result.0 bytes.now ++ own_part result.1 more }
+        ensures cut { result.0 < length bytes.now → (more : List ℕ) → own_part result.1 more ≡ [] }
+    {
+        match self {
+            FirstLine::Own => (bytes.len(), self),
+            _ => self.walk(bytes),
+        }
+    }
+
+    // The same, byte by byte.
+    fn walk(self, bytes: &[u8]) -> (usize, FirstLine)
+        ensures heard { (more : List ℕ) → IsForeignBehind self (bytes.now ++ more) ↔ IsForeignBehind result.1 more }
+        ensures few { result.0 ≤ length bytes.now }
+        ensures own { (more : List ℕ) → own_part self (bytes.now ++ more) ≡ take result.0 bytes.now ++ own_part result.1 more }
+        ensures cut { result.0 < length bytes.now → (more : List ℕ) → own_part result.1 more ≡ [] }
     {
         let mut line = self;
-        for byte in bytes {
+        for (count, byte) in bytes.iter().enumerate() {
             line = line.step(*byte);
+            if line.is_foreign() {
+                return (count, line);
+            }
         }
-        line
+        (bytes.len(), line)
     }
 
     /// Whether it is another protocol's, whatever comes.
     pub fn is_foreign(self) -> bool
-        ensures { IsTrue result ↔ IsForeignBehind self [] }
+        ensures known { IsTrue result ↔ IsForeignBehind self [] }
+        ensures silent { IsTrue result → (more : List ℕ) → own_part self more ≡ [] }
     {
         matches!(self, FirstLine::Foreign)
-    }
-
-    /// Whether that isn't known yet.
-    pub fn is_open(self) -> bool
-        ensures { result ≡ false → (more : List ℕ) → IsForeignBehind self more ↔ IsForeignBehind self [] }
-    {
-        !matches!(self, FirstLine::Foreign | FirstLine::Own)
     }
 
     // What it is once this byte came.

@@ -1,15 +1,11 @@
 //! What lines come in by, and what answers go out by.
-ghost use Rattle.std.specs.Prelude.{◌≡◌, ◌≤◌, ℕ, List, Option, None, vec_capacity};
-ghost use Rattle.std.specs.Io.{WritesAtMost};
-ghost use Rattle.std.specs.Io.KnownBytes.{Consumes, WriteAppends};
-ghost use Rattle.vault_lines.specs.Limits.{longest_line};
-ghost use Rattle.line_inlet.specs.Incoming.{GivesByte, GivesLine, KeepsLine};
+ghost use Rattle.std.specs.Prelude.{◌≡◌, ℕ, List, Option, None};
+ghost use Rattle.std.specs.Io.{ReadsAtMost, WritesAtMost};
+ghost use Rattle.std.specs.Io.KnownBytes.{ReadConsumes, WriteAppends};
 
-use crate::inlet::{Inlet, NextByte, NextLine};
-use std::alloc::Allocator;
 use std::io;
 
-/// What a conversation is held over: lines come in by it, and their answers go out. Reading doesn't change what was written, and
+/// What a conversation is held over: bytes of lines come in by it, and their answers go out. Reading doesn't change what was written, and
 /// writing doesn't change what is left to read. If one type has both of std's `Read` and `Write`, these don't say so.
 pub trait Connection {
     /// The bytes that are still to come, where they are known.
@@ -21,24 +17,10 @@ pub trait Connection {
     /// Which references it holds, by their ghost names.
     ghost names: { Self → ℕ × ℕ } = { λ _. (0, 0) };
 
-    /// The next byte, as `Inlet::next_byte` has it.
-    fn next_byte(&mut self, inlet: &mut Inlet) -> NextByte
-        ensures given { (given : List ℕ) × Consumes (remaining self.old) (remaining self.new) given
-            × GivesByte inlet.old given result inlet.new (remaining self.new) }
-        ensures same { (contents self.new ≡ contents self.old) × (names self.new ≡ names self.old) };
-
-    /// The next line, as `Inlet::next_line` has it.
-    fn next_line<A: Allocator>(
-        &mut self,
-        inlet: &mut Inlet,
-        line: &mut Vec<u8, A>,
-        is_long: &mut bool,
-    ) -> NextLine
-        requires { longest_line ≤ vec_capacity line.old }
-        ensures line { (part : List ℕ) → KeepsLine part line.old.items is_long.old
-            → (given : List ℕ) × Consumes (remaining self.old) (remaining self.new) given
-            × GivesLine inlet.old given part result line.new.items is_long.new inlet.new (remaining self.new) }
-        ensures room { vec_capacity line.old ≤ vec_capacity line.new }
+    /// Reads some bytes to the buffer's front, as `Read::read` does.
+    fn read(&mut self, buf: &mut [u8]) -> io::Result<usize>
+        ensures bound { ReadsAtMost result buf.new }
+        ensures bytes { ReadConsumes (remaining self.old) (remaining self.new) result buf.new }
         ensures same { (contents self.new ≡ contents self.old) × (names self.new ≡ names self.old) };
 
     /// Writes some of the bytes, as `Write::write` does.

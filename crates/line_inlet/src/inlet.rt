@@ -1,4 +1,4 @@
-//! Bytes and lines from a reader, within bounds.
+//! Bytes and lines from a connection, within bounds.
 
 ghost use Rattle.std.specs.Prelude.{◌≡◌, ◌+◌, ◌≤◌, ◌<◌, List, ℕ, [], ◌∷◌, ◌++◌, length, take, true, vec_capacity};
 ghost use Rattle.std.specs.Io.KnownBytes.{Consumes, IsAtEnd};
@@ -6,9 +6,10 @@ ghost use Rattle.vault_lines.specs.Limits.{longest_line};
 ghost use Rattle.line_inlet.specs.Inflow.{Inflow};
 ghost use Rattle.line_inlet.specs.Incoming.{most_bytes, most_reads, GivesByte, GivesLine, GivesPiece, KeepsLine, ReadsChunk, Fills, TakesByte, TakesMore, TakesPiece};
 
+use crate::connection::Connection;
 use memchr::memchr;
 use std::alloc::Allocator;
-use std::io::{ErrorKind, Read};
+use std::io::ErrorKind;
 use std::marker::Model;
 use vault_lines::{LONGEST_LINE, MAX_READS};
 
@@ -67,7 +68,7 @@ pub enum NextLine {
     NotYet,
 }
 
-/// What lies between a reader and the lines of a connection. Contracts see the bytes that wait, and how many were taken.
+/// What lies between the bytes of a connection and its lines. Contracts see the bytes that wait, and how many were taken.
 #[derive(Drop)]
 pub struct Inlet {
     /// What the last read gave.
@@ -78,7 +79,7 @@ pub struct Inlet {
     end: usize,
     /// How many bytes were taken out, over all reads.
     taken: u64,
-    /// How often the reader was called.
+    /// How often it was read.
     reads: u32,
 }
 
@@ -110,11 +111,12 @@ impl Inlet {
     }
 
     /// The next byte. A read that is interrupted is tried again, and counts among the reads.
-    pub fn next_byte<R: Read>(&mut self, reader: &mut R) -> NextByte
-        ensures { (given : List ℕ) × Consumes (R.remaining reader.old) (R.remaining reader.new) given
-            × GivesByte self.old given result self.new (R.remaining reader.new) }
+    pub fn next_byte<C: Connection>(&mut self, connection: &mut C) -> NextByte
+        ensures given { (given : List ℕ) × Consumes (C.remaining connection.old) (C.remaining connection.new) given
+            × GivesByte self.old given result self.new (C.remaining connection.new) }
+        ensures same { (C.contents connection.new ≡ C.contents connection.old) × (C.names connection.new ≡ C.names connection.old) }
     {
-        match self.fill(reader) {
+        match self.fill(connection) {
             Filled::Waiting => self.take_byte(),
             Filled::End => NextByte::End,
             Filled::Fault => NextByte::Fault,
@@ -123,14 +125,15 @@ impl Inlet {
     }
 
     // Reads if no bytes wait.
-    fn fill<R: Read>(&mut self, reader: &mut R) -> Filled
-        ensures { (given : List ℕ) × Consumes (R.remaining reader.old) (R.remaining reader.new) given
-            × Fills self.old given result self.new (R.remaining reader.new) }
+    fn fill<C: Connection>(&mut self, connection: &mut C) -> Filled
+        ensures given { (given : List ℕ) × Consumes (C.remaining connection.old) (C.remaining connection.new) given
+            × Fills self.old given result self.new (C.remaining connection.new) }
+        ensures same { (C.contents connection.new ≡ C.contents connection.old) × (C.names connection.new ≡ C.names connection.old) }
     {
         if self.at < self.end {
             return Filled::Waiting;
         }
-        match read_chunk(reader, &mut self.chunk, &mut self.reads) {
+        match read_chunk(connection, &mut self.chunk, &mut self.reads) {
             Given::Bytes(0) => Filled::End,
             Given::Bytes(count) => {
                 self.at = 0;
@@ -193,20 +196,21 @@ impl Inlet {
     }
 
     // The next piece of a line. Reads if no bytes wait.
-    fn next_piece<R: Read, A: Allocator>(
+    fn next_piece<C: Connection, A: Allocator>(
         &mut self,
-        reader: &mut R,
+        connection: &mut C,
         line: &mut Vec<u8, A>,
         is_long: bool,
     ) -> Piece
         requires room { longest_line ≤ vec_capacity line.old }
         ensures room { vec_capacity line.old ≤ vec_capacity line.new }
         ensures given { (so_far : List ℕ) → KeepsLine so_far line.old.items is_long
-            → (given : List ℕ) × Consumes (R.remaining reader.old) (R.remaining reader.new) given
-            × GivesPiece self.old given so_far is_long result line.new.items self.new (R.remaining reader.new) }
+            → (given : List ℕ) × Consumes (C.remaining connection.old) (C.remaining connection.new) given
+            × GivesPiece self.old given so_far is_long result line.new.items self.new (C.remaining connection.new) }
         ensures more { TakesMore self.old result self.new }
+        ensures same { (C.contents connection.new ≡ C.contents connection.old) × (C.names connection.new ≡ C.names connection.old) }
     {
-        match self.fill(reader) {
+        match self.fill(connection) {
             Filled::Waiting => self.take_piece(line, is_long),
             Filled::End => Piece::End,
             Filled::Fault => Piece::Fault,
@@ -216,20 +220,21 @@ impl Inlet {
 
     /// The next line, into a buffer that has room for the longest. All bytes of a longer one are taken. If it isn't whole, the buffer
     /// keeps what came, and the next call goes on with it. The caller clears the buffer and the flag once it has used a line.
-    pub fn next_line<R: Read, A: Allocator>(
+    pub fn next_line<C: Connection, A: Allocator>(
         &mut self,
-        reader: &mut R,
+        connection: &mut C,
         line: &mut Vec<u8, A>,
         is_long: &mut bool,
     ) -> NextLine
         requires { longest_line ≤ vec_capacity line.old }
         ensures line { (part : List ℕ) → KeepsLine part line.old.items is_long.old
-            → (given : List ℕ) × Consumes (R.remaining reader.old) (R.remaining reader.new) given
-            × GivesLine self.old given part result line.new.items is_long.new self.new (R.remaining reader.new) }
+            → (given : List ℕ) × Consumes (C.remaining connection.old) (C.remaining connection.new) given
+            × GivesLine self.old given part result line.new.items is_long.new self.new (C.remaining connection.new) }
         ensures room { vec_capacity line.old ≤ vec_capacity line.new }
+        ensures same { (C.contents connection.new ≡ C.contents connection.old) × (C.names connection.new ≡ C.names connection.old) }
     {
         loop {
-            match self.next_piece(reader, line, *is_long) {
+            match self.next_piece(connection, line, *is_long) {
                 Piece::Whole => return NextLine::Whole,
                 Piece::TooLong => return NextLine::TooLong,
                 Piece::More(is_longer) => *is_long = is_longer,
@@ -270,17 +275,18 @@ enum Given {
 }
 
 // Reads once, and again if the read was interrupted. Gives a fault if the reader failed, or was called too often.
-fn read_chunk<R: Read>(reader: &mut R, chunk: &mut [u8; CHUNK], reads: &mut u32) -> Given
+fn read_chunk<C: Connection>(connection: &mut C, chunk: &mut [u8; CHUNK], reads: &mut u32) -> Given
     requires { reads.old ≤ most_reads }
     ensures reads { reads.new ≤ most_reads }
-    ensures bytes { ReadsChunk (R.remaining reader.old) (R.remaining reader.new) chunk.new result }
+    ensures bytes { ReadsChunk (C.remaining connection.old) (C.remaining connection.new) chunk.new result }
+    ensures same { (C.contents connection.new ≡ C.contents connection.old) × (C.names connection.new ≡ C.names connection.old) }
 {
     for _ in 0..MAX_READS {
         if *reads >= MAX_READS {
             return Given::Fault;
         }
         *reads += 1;
-        match reader.read(chunk) {
+        match connection.read(chunk) {
             Ok(count) => return Given::Bytes(count),
             Err(error) => match error.kind() {
                 ErrorKind::Interrupted => {}

@@ -287,7 +287,9 @@ impl<A: Allocator + Copy, H: Wait + Clock> Door<'_, A, H> {
         if prepare(&connection.stream).is_err() {
             drop(connection);
         } else if self.are_enough(queue, from) {
-            turn_away(self.alloc, connection.stream);
+            let mut stream = connection.stream;
+            turn_away(self.alloc, &mut stream);
+            drop(stream);
         } else {
             let _ = queue.here.push((connection.number, from));
             let until = now.and_then(|now| now.checked_add(self.options.wait?));
@@ -365,10 +367,11 @@ impl<A: Allocator + Copy, H: Wait + Clock> Door<'_, A, H> {
                 connection,
                 until: _,
             } = queue.waiting.remove(0);
-            let Accepted { number, stream } = connection;
+            let Accepted { number, mut stream } = connection;
             queue.is_changed = true;
             queue.here.retain(|(here, _)| *here != number);
-            turn_away(self.alloc, stream);
+            turn_away(self.alloc, &mut stream);
+            drop(stream);
         }
     }
 

@@ -1,12 +1,18 @@
 //! How a connection is set up at the kernel, how its bytes are read, and how it is given up.
-
+ghost use Rattle.std.specs.Prelude.{◌≡◌, ℕ, List, Option, None, IfSome};
+ghost use Rattle.std.specs.Option.{option_map};
+ghost use Rattle.std.specs.Io.{ReadsAtMost, WritesAtMost};
+ghost use Rattle.std.specs.Io.KnownBytes.{ReadConsumes, WriteAppends};
 ghost use Rattle.libc.specs.Net.{SockOption};
+ghost use Rattle.first_line.specs.Own.{own_part};
+ghost use Rattle.tcp_door.specs.Wires.{first_of, IsToldBusy};
 
 use first_line::FirstLine;
 use libc::net as c;
-use line_inlet::{Connection, Inlet, NextByte, NextLine};
+use line_inlet::Connection;
 use std::alloc::Allocator;
 use std::io::{self, ErrorKind, Read, Write};
+use std::marker::Model;
 use std::net::{Shutdown, TcpStream};
 use std::os::fd::AsRawFd;
 use std::time::{Duration, Instant};
@@ -66,30 +72,87 @@ pub(crate) fn prepare(stream: &TcpStream) -> io::Result<()> {
     stream.set_nonblocking(true)
 }
 
-/// Tells a connection that there is no place for it, and ends it. What it sent by now is read first: a connection that is dropped with
-/// bytes unread is reset, and then the client may lose the answer.
-pub fn turn_away<A: Allocator + Copy>(alloc: A, stream: TcpStream) {
-    let mut both = &stream;
+/// A stream in both directions. Reading doesn't change what was written, and writing doesn't change what is left to read.
+pub trait Stream {
+    /// The bytes that are still to come, where they are known.
+    ghost remaining: { Self → Option (List ℕ) } = { λ _. None };
+
+    /// The bytes that were written, where they are known.
+    ghost contents: { Self → Option (List ℕ) } = { λ _. None };
+
+    /// Reads some bytes to the buffer's front, as `Read::read` does.
+    fn read(&mut self, buf: &mut [u8]) -> io::Result<usize>
+        ensures bound { ReadsAtMost result buf.new }
+        ensures bytes { ReadConsumes (remaining self.old) (remaining self.new) result buf.new }
+        ensures same { contents self.new ≡ contents self.old };
+
+    /// Writes some of the bytes, as `Write::write` does.
+    fn write(&mut self, buf: &[u8]) -> io::Result<usize>
+        ensures bound { WritesAtMost result buf.now }
+        ensures bytes { WriteAppends (contents self.old) (contents self.new) result buf.now }
+        ensures same { remaining self.new ≡ remaining self.old };
+
+    /// Lets the other side know that no more is written.
+    fn end(&mut self) -> io::Result<()>
+        ensures same { (remaining self.new ≡ remaining self.old) × (contents self.new ≡ contents self.old) };
+}
+
+// No contract of the standard library says what a client sent, or what it gets. So nothing is claimed of a socket's bytes.
+impl Stream for TcpStream {
+    fn read(&mut self, buf: &mut [u8]) -> io::Result<usize> {
+        Read::read(self, buf)
+    }
+
+    fn write(&mut self, buf: &[u8]) -> io::Result<usize> {
+        Write::write(self, buf)
+    }
+
+    fn end(&mut self) -> io::Result<()> {
+        self.shutdown(Shutdown::Write)
+    }
+}
+
+// Throws away what has come, so that the connection isn't reset.
+fn throw_away<S: Stream>(stream: &mut S)
+    ensures { S.contents stream.new ≡ S.contents stream.old }
+{
     let mut chunk = [0; 4096];
     for _ in 0..CHUNKS_A_ROUND {
-        if !both.read(&mut chunk).is_ok_and(|count| count > 0) {
-            break;
+        if !stream.read(&mut chunk).is_ok_and(|count| count > 0) {
+            return;
         }
     }
+}
+
+/// Tells a connection that there is no place for it, and ends it. What it sent by now is read first: a connection that is dropped with
+/// bytes unread is reset, and then the client may lose the answer.
+pub fn turn_away<A: Allocator + Copy, S: Stream>(alloc: A, stream: &mut S)
+    ensures { IsToldBusy (S.contents stream.old) (S.contents stream.new) }
+{
+    throw_away(stream);
     if let Ok(text) = outside_text(alloc, Outside::Busy) {
-        let _ = both.write(&text);
+        let _ = stream.write(&text);
         drop(text);
     }
-    let _ = stream.shutdown(Shutdown::Write);
-    drop(stream);
+    let _ = stream.end();
+}
+
+// What is known of a connection's first line before anything came.
+fn first_line(refuses_foreign: bool) -> FirstLine
+    ensures { result ≡ first_of refuses_foreign }
+{
+    if refuses_foreign {
+        return FirstLine::new();
+    }
+    FirstLine::Own
 }
 
 /// A served connection. It is read until it gives less than was asked for. Then nothing is there, and the kernel says when more is. In
 /// one round it gives bytes until there are `BYTES_A_ROUND`, and then says that it has none for now. If its first line is another
-/// protocol's, it gives its end in place of the bytes that show this, and of all after them.
+/// protocol's, it gives its end in place of the first byte that shows this, and of all after it.
 #[derive(Drop)]
-pub struct Wire {
-    stream: TcpStream,
+pub struct Wire<S = TcpStream> {
+    stream: S,
     // Whether nothing is there.
     is_dry: bool,
     // Whether the end may follow what is there: the kernel doesn't say so again.
@@ -100,37 +163,42 @@ pub struct Wire {
     first: FirstLine,
 }
 
-impl Wire {
+impl<S> Model for Wire<S> {
+    ghost use Rattle.tcp_door.specs.Wires.{OnWire};
+
+    ghost Value = { OnWire S };
+
+    ghost view = { λ w. record { stream = w.stream; first = w.first } };
+}
+
+impl<S: Stream> Wire<S> {
     /// Nothing was read yet. If `refuses_foreign` is set, another protocol's first line is the end. Else it is a line like any other.
-    pub fn new(stream: TcpStream, refuses_foreign: bool) -> Wire {
+    pub fn new(stream: S, refuses_foreign: bool) -> Wire<S>
+        ensures { result ≡ record { stream = stream; first = first_of refuses_foreign } }
+    {
         Wire {
             stream,
             is_dry: false,
             is_ending: false,
             left: BYTES_A_ROUND,
-            first: if refuses_foreign {
-                FirstLine::new()
-            } else {
-                FirstLine::Own
-            },
+            first: first_line(refuses_foreign),
         }
     }
 
     /// The stream.
-    pub fn into_stream(self) -> TcpStream {
+    pub fn into_stream(self) -> S
+        ensures { result ≡ self.stream }
+    {
         self.stream
-    }
-
-    // Notes that these bytes came. Says whether the conversation may hear them.
-    fn may_be_heard(&mut self, bytes: &[u8]) -> bool {
-        if self.first.is_open() {
-            self.first = self.first.hear(bytes);
-        }
-        !self.first.is_foreign()
     }
 }
 
-impl Read for Wire {
+impl<S: Stream> Connection for Wire<S> {
+    // Those of the stream, but for another protocol's first line.
+    ghost remaining = { λ w. option_map (own_part w.first) (S.remaining w.stream) };
+
+    ghost contents = { λ w. S.contents w.stream };
+
     fn read(&mut self, buf: &mut [u8]) -> io::Result<usize> {
         if self.first.is_foreign() {
             return Ok(0);
@@ -138,13 +206,13 @@ impl Read for Wire {
         if self.is_dry || self.left == 0 {
             return Err(io::Error::from(ErrorKind::WouldBlock));
         }
-        let mut stream = &self.stream;
-        match stream.read(buf) {
+        match self.stream.read(buf) {
             Ok(count) => {
                 self.is_dry = count < buf.len() && !self.is_ending;
                 self.left = self.left.saturating_sub(count);
-                let bytes = buf.get(..count).unwrap_or(b"");
-                Ok(if self.may_be_heard(bytes) { count } else { 0 })
+                let (own, first) = self.first.take_own(&buf[..count]);
+                self.first = first;
+                Ok(own)
             }
             Err(error) => {
                 self.is_dry = error.kind() == ErrorKind::WouldBlock;
@@ -152,25 +220,9 @@ impl Read for Wire {
             }
         }
     }
-}
-
-impl Connection for Wire {
-    fn next_byte(&mut self, inlet: &mut Inlet) -> NextByte {
-        inlet.next_byte(self)
-    }
-
-    fn next_line<A: Allocator>(
-        &mut self,
-        inlet: &mut Inlet,
-        line: &mut Vec<u8, A>,
-        is_long: &mut bool,
-    ) -> NextLine {
-        inlet.next_line(self, line, is_long)
-    }
 
     fn write(&mut self, buf: &[u8]) -> io::Result<usize> {
-        let mut stream = &self.stream;
-        stream.write(buf)
+        self.stream.write(buf)
     }
 
     fn wake(&mut self, is_ending: bool) {
@@ -202,10 +254,10 @@ pub enum Unread {
 /// MiB at most. A connection that is dropped with bytes unread is reset, and then a client that reads late loses replies that were
 /// written.
 #[derive(Drop)]
-pub struct Drain {
+pub struct Drain<S = TcpStream> {
     /// The number of its connection.
     pub number: u32,
-    stream: TcpStream,
+    stream: S,
     began: Instant,
     // When something last came, and for how many milliseconds nothing may come now.
     came: Instant,
@@ -213,21 +265,27 @@ pub struct Drain {
     chunks: u32,
 }
 
-impl Drain {
+impl<S> Model for Drain<S> {
+    ghost use Rattle.tcp_door.specs.Wires.{OnDrain};
+
+    ghost Value = { OnDrain S };
+
+    ghost view = { λ d. record { number = d.number; stream = d.stream } };
+}
+
+impl<S: Stream + Drop> Drain<S> {
     /// Lets the client know that no more comes. None if nothing is waited for, nobody reads, or the time isn't known.
-    pub fn begin(
-        number: u32,
-        stream: TcpStream,
-        unread: Unread,
-        now: Option<Instant>,
-    ) -> Option<Drain> {
+    pub fn begin(number: u32, stream: S, unread: Unread, now: Option<Instant>) -> Option<Drain<S>>
+        ensures { IfSome result (λ drain. (drain.number ≡ number) × (S.contents drain.stream ≡ S.contents stream)) }
+    {
+        let mut stream = stream;
         let wait = match unread {
             Unread::Little => SHORT_WAIT,
             Unread::Lines => WAIT,
             Unread::Nothing => return None,
         };
         let now = now?;
-        if stream.shutdown(Shutdown::Write).is_err() {
+        if stream.end().is_err() {
             return None;
         }
         Some(Drain {
@@ -247,12 +305,13 @@ impl Drain {
         Some(if silent < last { silent } else { last })
     }
 
-    /// Throws away what has come.
-    pub fn drain(&mut self, now: Option<Instant>) -> Drained {
+    /// Throws away what has come. Nothing is written.
+    pub fn drain(&mut self, now: Option<Instant>) -> Drained
+        ensures { (self.new.number ≡ self.old.number) × (S.contents self.new.stream ≡ S.contents self.old.stream) }
+    {
         let mut chunk = [0; 4096];
         for _ in 0..CHUNKS_A_ROUND {
-            let mut stream = &self.stream;
-            match stream.read(&mut chunk) {
+            match self.stream.read(&mut chunk) {
                 Ok(0) => return Drained::Over,
                 Ok(_) => {
                     self.came = now.unwrap_or(self.came);

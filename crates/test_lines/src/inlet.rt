@@ -1,18 +1,18 @@
-//! Bytes and lines from a reader that fails, pauses, is interrupted, or never ends.
+//! Bytes and lines from a connection that fails, pauses, is interrupted, or never ends.
 
-use line_inlet::{Inlet, NextByte, NextLine};
+use line_inlet::{Connection, Inlet, NextByte, NextLine};
 use std::alloc::{AllocError, Global};
-use std::io::{self, ErrorKind, Read};
+use std::io::{self, ErrorKind};
 use vault_lines::{LONGEST_LINE, MAX_READS};
 
-/// What one call of a reader gives.
+/// What one read gives.
 #[derive(Clone, Copy)]
 enum Call {
     Gives(&'static [u8]),
     Fails(ErrorKind),
 }
 
-/// A reader whose calls give this, one by one, and then the last one again and again.
+/// A connection whose reads give this, one by one, and then the last one again and again.
 #[derive(Drop)]
 struct Scripted {
     calls: &'static [Call],
@@ -25,7 +25,7 @@ impl Scripted {
     }
 }
 
-impl Read for Scripted {
+impl Connection for Scripted {
     fn read(&mut self, buf: &mut [u8]) -> io::Result<usize> {
         let call = self.calls.get(self.at).or(self.calls.last());
         self.at = self.at.saturating_add(1).min(self.calls.len());
@@ -38,6 +38,10 @@ impl Read for Scripted {
             Some(Call::Fails(kind)) => Err(io::Error::from(*kind)),
             None => Ok(0),
         }
+    }
+
+    fn write(&mut self, _buf: &[u8]) -> io::Result<usize> {
+        Ok(0)
     }
 }
 

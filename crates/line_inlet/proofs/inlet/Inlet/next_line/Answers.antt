@@ -1,10 +1,10 @@
-use Rattle.std.proofs.Common.{[], ◌++◌, rules, arith}
+use Rattle.std.proofs.Common.{[], ◌++◌, ◌∙◌, refl, rules, arith}
 use Rattle.std.proofs.KnownBytes.{Consumes-nil, Consumes-trans}
 use Rattle.line_inlet.proofs.Bytes.{begins, goes_on, whole, too_long, ends, exceeds, waits}
 use Rattle.line_inlet.proofs.inlet.Inlet.next_line.Goals as goal
 
 pub loop-is_longer-init : goal.loop-is_longer-init
-loop-is_longer-init g c = (search rules, λ part keeps. ([], [], Consumes-nil _, begins _ part _ _ keeps))
+loop-is_longer-init g c = (search rules, λ part keeps. ([], [], Consumes-nil _, begins _ part _ _ keeps), refl, refl)
 
 pub returns-in-Whole-clause-line : goal.returns-in-Whole-clause-line
 returns-in-Whole-clause-line g c = λ part keeps.
@@ -30,6 +30,8 @@ loop-is_longer-preserved g c = (
         Consumes-trans _ _ _ _ _ consumed consumes,
         goes_on _ _ _ given part piece _ _ _ _ more line one none kept taken,
       ),
+  c.in-More.ensures.same.0 ∙ c.loop-is_longer.invariant.2,
+  c.in-More.ensures.same.1 ∙ c.loop-is_longer.invariant.3,
 )
 
 pub returns-in-End-clause-line : goal.returns-in-End-clause-line
