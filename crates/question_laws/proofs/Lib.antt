@@ -1,0 +1,6 @@
+pub mod Near
+pub mod Lines
+pub mod Shown
+pub mod Versions
+pub mod Lengths
+pub mod Replies
