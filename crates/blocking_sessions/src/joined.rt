@@ -1,7 +1,6 @@
 //! A separate reader and writer, as a connection.
 
-use line_inlet::{Connection, Inlet, NextByte, NextLine};
-use std::alloc::Allocator;
+use line_inlet::Connection;
 use std::io::{self, Read, Write};
 
 /// A reader, as the half of a connection that is heard.
@@ -22,17 +21,8 @@ impl<R: Read, W: Write> Connection for Joined<'_, '_, R, W> {
 
     ghost names = { λ j. (j.ear.reader.ghost_name, j.writer.ghost_name) };
 
-    fn next_byte(&mut self, inlet: &mut Inlet) -> NextByte {
-        inlet.next_byte(&mut *self.ear.reader)
-    }
-
-    fn next_line<A: Allocator>(
-        &mut self,
-        inlet: &mut Inlet,
-        line: &mut Vec<u8, A>,
-        is_long: &mut bool,
-    ) -> NextLine {
-        inlet.next_line(&mut *self.ear.reader, line, is_long)
+    fn read(&mut self, buf: &mut [u8]) -> io::Result<usize> {
+        self.ear.reader.read(buf)
     }
 
     fn write(&mut self, buf: &[u8]) -> io::Result<usize> {

@@ -1,6 +1,7 @@
 //! A worker serves one connection.
 ghost use Rattle.std.specs.Prelude.{◌≡◌, ◌≤◌, length, true};
-ghost use Rattle.vault_sessions.specs.Serving.{most_lines, HeardAll, SpeaksFor, CountsAll, WritesAll, QuitsBy};
+ghost use Rattle.vault_sessions.specs.Sights.{seen_by};
+ghost use Rattle.vault_sessions.specs.Serving.{AreSeen, most_lines, HeardAll, SpeaksFor, CountsAll, WritesAll, QuitsBy};
 
 use crate::joined::{Ear, Joined};
 use line_inlet::Connection;
@@ -8,7 +9,9 @@ use std::alloc::{Allocator, Global};
 use std::io::{Read, Write};
 use std::sync::Wait;
 use vault_device::Device;
-use vault_sessions::{Dialogue, Ended, Finished, Gate, Out, Share, Shared, Step, Tally, Worker};
+use vault_sessions::{
+    Dialogue, Ended, Finished, Gate, Out, Share, Shared, Sight, Step, Tally, Worker,
+};
 
 /// A conversation that ended.
 #[derive(Drop)]
@@ -17,6 +20,8 @@ pub struct Report<S: Tally, T: Tally, A: Allocator = Global> {
     pub outs: Vec<Out<A>, A>,
     /// The worker's share.
     pub share: Share<S, T>,
+    /// What was seen of the vault.
+    pub sight: Option<Sight<S>>,
     /// Why it ended.
     pub ended: Ended,
 }
@@ -45,6 +50,7 @@ pub fn serve_one<
     ensures heard { HeardAll (R.remaining reader.old) (R.remaining reader.new) result.outs.items result.ended }
     ensures few { length result.outs.items ≤ most_lines }
     ensures spoken { SpeaksFor 0 result.outs.items }
+    ensures told { AreSeen (seen_by result.sight) result.outs.items }
     ensures written { WritesAll result.ended (W.contents writer.old) (W.contents writer.new) result.outs.items }
     ensures quit { QuitsBy result.ended result.outs.items }
     ensures counted { CountsAll share result.outs.items result.ended result.share }
@@ -87,6 +93,7 @@ fn serve_heard<
     ensures heard { HeardAll (R.remaining ear.entry.reader.now) (R.remaining result.0.reader.now) result.1.outs.items result.1.ended }
     ensures few { length result.1.outs.items ≤ most_lines }
     ensures spoken { SpeaksFor 0 result.1.outs.items }
+    ensures told { AreSeen (seen_by result.1.sight) result.1.outs.items }
     ensures written { WritesAll result.1.ended (W.contents writer.old) (W.contents writer.new) result.1.outs.items }
     ensures quit { QuitsBy result.1.ended result.1.outs.items }
     ensures counted { CountsAll share result.1.outs.items result.1.ended result.1.share }
@@ -101,6 +108,7 @@ fn serve_heard<
             let report = Report {
                 outs: Vec::new(worker.alloc),
                 share,
+                sight: None,
                 ended: Ended::NoMemory,
             };
             return (ear, report);
@@ -119,16 +127,23 @@ fn report_of<S: Tally, T: Tally, A: Allocator + Copy>(
     finished: Finished<S, T, A>,
 ) -> Report<S, T, A>
     requires { finished.answers.is_kept ≡ true }
-    ensures { (result.outs.items ≡ finished.answers.outs) × (result.share ≡ finished.share) × (result.ended ≡ finished.ended) }
+    ensures { (result.outs.items ≡ finished.answers.outs) × (result.share ≡ finished.share) × (result.ended ≡ finished.ended)
+        × (result.sight ≡ finished.sight) }
 {
     let Finished {
         answers,
         share,
+        sight,
         ended,
         left: _,
     } = finished;
     match answers.into_values() {
-        Some(outs) => Report { outs, share, ended },
+        Some(outs) => Report {
+            outs,
+            share,
+            sight,
+            ended,
+        },
         None => unreachable!(),
     }
 }

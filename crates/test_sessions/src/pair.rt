@@ -15,7 +15,9 @@ use std::time::Clock;
 use test_fixtures::{Begun, Devices, Hearer, Piece, Sender, created};
 use test_memory::Refusing;
 use vault_device::{Device, MemDevice};
-use vault_sessions::{Ended, Flushed, OpenGate, Share, Shared, Tally, Totals, gather, run_flusher};
+use vault_sessions::{
+    Ended, Flushed, NewPast, OpenGate, Share, Shared, Tally, Totals, gather, run_flusher,
+};
 
 /// What one of two connections says, how each line of its answers begins, and why it ends.
 #[derive(Clone, Copy)]
@@ -95,7 +97,12 @@ fn serve_side<S: Tally, T: Tally, D: Device, A: Allocator + Copy, H: Wait + Cloc
     share: Share<S, T>,
 ) -> (Share<S, T>, Ended) {
     let mut reader = Sender::new(says, Devices::Plain);
-    let Report { outs, share, ended } = serve_one(
+    let Report {
+        outs,
+        share,
+        sight,
+        ended,
+    } = serve_one(
         rt,
         alloc,
         shared,
@@ -106,6 +113,7 @@ fn serve_side<S: Tally, T: Tally, D: Device, A: Allocator + Copy, H: Wait + Cloc
         share,
     );
     drop(outs);
+    drop(sight);
     drop(reader);
     (share, ended)
 }
@@ -176,6 +184,7 @@ fn over<
 >(
     rt: &H,
     alloc: A,
+    past: NewPast,
     staged: Blank,
     told: Blank,
     vault: Vault<D, A>,
@@ -186,9 +195,11 @@ fn over<
     requires whole { (S.all ≡ S.parts) × (T.all ≡ T.parts) }
     requires staged { (staged.name ≡ S.name) × (staged.parts ≡ S.parts) × (S.all ≡ 3) × (S.beginning ≡ vault.view) }
     requires told { (told.name ≡ T.name) × (told.parts ≡ T.parts) × (T.all ≡ 3) × (T.beginning ≡ vault.view) }
+    requires past { past ≡ S.book }
     requires frees { Frees A.Allocator A.dealloc_token }
 {
-    let Ok((shared, mut shares)) = Shared::<D, S, T, A>::new(alloc, staged, told, vault, 2) else {
+    let made = Shared::<D, S, T, A>::new(alloc, past, staged, told, vault, 2);
+    let Ok((shared, mut shares)) = made else {
         panic!(rt; "no shares");
     };
     let one = shares.pop().expect(rt, "a share");
@@ -209,7 +220,7 @@ fn over<
     shares.push(one).expect(rt, "memory");
     shares.push(other).expect(rt, "memory");
     match gather(shared, shares) {
-        Ok((vault, totals)) => (are_ended, totals, vault),
+        Ok((vault, totals, _)) => (are_ended, totals, vault),
         Err(back) => {
             drop(back);
             panic!(rt; "both shares were too few")
@@ -244,6 +255,7 @@ fn come_to_that<'m, H: Threads + Wait + Clock + Sync + Abort>(
     let (are_ended, totals, vault) = over::<Brand, Brand, MemDevice, &'m Refusing<Global>, H>(
         rt,
         memory,
+        NewPast::new(),
         staged,
         told,
         vault,

@@ -21,7 +21,8 @@ use test_fixtures::{
 use test_memory::Refusing;
 use vault_device::{Device, MemDevice};
 use vault_sessions::{
-    Ended, Flushed, Gate, OpenGate, Point, Share, Shared, Tally, Totals, gather, run_flusher,
+    Ended, Flushed, Gate, NewPast, OpenGate, Point, Share, Shared, Tally, Totals, gather,
+    run_flusher,
 };
 
 /// How often files are called in a commit, and in a snapshot.
@@ -163,11 +164,13 @@ fn serve_all<S: Tally, T: Tally, D: Device, A: Allocator + Copy, H: Wait + Clock
         let Report {
             outs,
             share: back,
+            sight,
             ended,
         } = serve_one(rt, alloc, shared, &gate, 1, &mut reader, writer, share);
         answered = (Some(ended), outs.len());
         share = back;
         drop(outs);
+        drop(sight);
         drop(reader);
     }
     (share, answered)
@@ -238,6 +241,7 @@ fn converse_over<
 >(
     rt: &H,
     alloc: A,
+    past: NewPast,
     staged: Blank,
     told: Blank,
     vault: Vault<D, A>,
@@ -247,9 +251,10 @@ fn converse_over<
     requires whole { (S.all ≡ S.parts) × (T.all ≡ T.parts) }
     requires staged { (staged.name ≡ S.name) × (staged.parts ≡ S.parts) × (S.all ≡ 3) × (S.beginning ≡ vault.view) }
     requires told { (told.name ≡ T.name) × (told.parts ≡ T.parts) × (T.all ≡ 3) × (T.beginning ≡ vault.view) }
+    requires past { past ≡ S.book }
     requires frees { Frees A.Allocator A.dealloc_token }
 {
-    match Shared::<D, S, T, A>::new(alloc, staged, told, vault, 2) {
+    match Shared::<D, S, T, A>::new(alloc, past, staged, told, vault, 2) {
         Ok((shared, mut shares)) => {
             let share = shares.pop().expect(rt, "a share");
             let (share, answered, flushed) = flushed(rt, alloc, &shared, talk, writer, share);
@@ -289,7 +294,7 @@ fn gathered<S: Tally, T: Tally, D: Device + Drop, A: Allocator + Copy>(
     let (shared, mut shares) = not_gathered(rt, shared, shares);
     shares.push(share).expect(rt, "memory");
     match gather(shared, shares) {
-        Ok(gathered) => gathered,
+        Ok((vault, totals, _)) => (vault, totals),
         Err(back) => {
             drop(back);
             panic!(rt; "both shares were too few")
@@ -310,7 +315,14 @@ fn converse<'m, H: Threads + Wait + Clock + Sync + Abort>(
     memory.refuse(request);
     let (staged, told) = (Blank::new(3), Blank::new(3));
     match converse_over::<Brand, Brand, MemDevice, &'m Refusing<Global>, H>(
-        rt, memory, staged, told, vault, talk, writer,
+        rt,
+        memory,
+        NewPast::new(),
+        staged,
+        told,
+        vault,
+        talk,
+        writer,
     ) {
         Ok(conversed) => Ok(came_of(conversed)),
         Err(vault) => Err(vault),

@@ -4,3 +4,7 @@ pub mod Sends
 pub mod Heard
 pub mod Told
 pub mod Talks
+pub mod Prefixes
+pub mod Adding
+pub mod Seeing
+pub mod Standing

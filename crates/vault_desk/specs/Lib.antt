@@ -1,6 +1,7 @@
 pub mod AtDesk
 pub mod Tallies
 pub mod Acts
+pub mod Sights
 pub mod Pumping
 pub mod Serving
 pub mod Talking

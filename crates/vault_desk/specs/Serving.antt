@@ -10,6 +10,8 @@ use Rattle.vault_lines.specs.Grammar.{command_of}
 use Rattle.vault_lines.specs.Texts.{reply_text, outside_text}
 use Rattle.line_inlet.specs.Inflow.{Inflow}
 use Rattle.line_inlet.specs.Incoming.{most_bytes, IsOneLine}
+use Rattle.group_commit.specs.View.{View}
+use Rattle.vault_desk.specs.Sights.{WasTold, Acknowledged}
 use Rattle.vault_desk.specs.declared.report.Out.{Out}
 use Rattle.vault_desk.specs.declared.report.Out.TheVariants.{Told, Refused}
 use Rattle.vault_desk.specs.declared.report.Ended.{Ended}
@@ -87,6 +89,26 @@ IsOf session (Refused outside) = Unit {0}
 abbrev pub SpeaksFor : {A : Type 0} → ℕ → List (Out A) → Type 0
 SpeaksFor session [] = Unit {0}
 SpeaksFor session (out ∷ outs) = IsOf session out × SpeaksFor (session_after session out) outs
+
+-- a receipt's entry was seen as acknowledged
+abbrev pub IsSeen : {A : Type 0} → List View → Out A → Type 0
+IsSeen seen (Told receipt) = WasTold seen receipt
+IsSeen seen (Refused outside) = Unit {0}
+
+-- so was that of each receipt
+abbrev pub AreSeen : {A : Type 0} → List View → List (Out A) → Type 0
+AreSeen seen [] = Unit {0}
+AreSeen seen (out ∷ outs) = IsSeen seen out × AreSeen seen outs
+
+-- a receipt's entry stands, as acknowledged, in the history by which a vault came from one view to another
+abbrev pub IsOfHistory : {A : Type 0} → View → View → Out A → Type 0
+IsOfHistory old new (Told receipt) = Acknowledged old new receipt
+IsOfHistory old new (Refused outside) = Unit {0}
+
+-- so does that of each receipt
+abbrev pub AreOfHistory : {A : Type 0} → View → View → List (Out A) → Type 0
+AreOfHistory old new [] = Unit {0}
+AreOfHistory old new (out ∷ outs) = IsOfHistory old new out × AreOfHistory old new outs
 
 -- the session that the connection speaks for at the end
 abbrev pub session_of : {A : Type 0} → ℕ → List (Out A) → ℕ

@@ -7,10 +7,12 @@ use Rattle.std.specs.Io.KnownBytes.{Appends}
 use Rattle.vault_lines.specs.Grammar.{command_of}
 use Rattle.vault_model.specs.Said.{Command}
 use Rattle.vault_model.specs.declared.commands.Command.TheVariants as commands
+use Rattle.group_commit.specs.View.{View}
 use Rattle.group_commit.specs.Ticket.{TicketSeen}
 use Rattle.line_inlet.specs.Inflow.{Inflow}
 use Rattle.line_inlet.specs.Incoming.{most_bytes, IsOneLine, KeepsLine}
-use Rattle.vault_desk.specs.Serving.{most_lines, Fits, FitsCommand, HeardSoFar, HeardAll, SpeaksFor, session_of, text_of, texts_of, IsLeft, NoneLeft, WritesAll, QuitsBy, CountsWith, lost_by}
+use Rattle.vault_desk.specs.Sights.{seen_by, WasStaged}
+use Rattle.vault_desk.specs.Serving.{AreSeen, most_lines, Fits, FitsCommand, HeardSoFar, HeardAll, SpeaksFor, session_of, text_of, texts_of, IsLeft, NoneLeft, WritesAll, QuitsBy, CountsWith, lost_by}
 use Rattle.vault_desk.specs.declared.report.Out.{Out}
 use Rattle.vault_desk.specs.declared.report.Out.TheVariants.{Refused}
 use Rattle.vault_desk.specs.declared.report.Ended.{Ended}
@@ -96,11 +98,22 @@ pub record Stands {A : Type 0} (turn : Turn A) (reader_old reader_new writer_old
   pub written : WritesBy turn writer_old writer_new outs
   pub counted : CountsBy turn counts outs share
 
+-- the entry of the command that is waited for was seen in the history
+abbrev pub IsSeenIn : {A : Type 0} → List View → Turn A → Type 0
+IsSeenIn seen (Wait ticket) = WasStaged seen ticket
+IsSeenIn seen turn = Unit {0}
+
+-- what a conversation saw of the vault shows its receipts as acknowledged, and the entry of the command that it waits for
+pub record Knows {A : Type 0} (turn : Turn A) (seen : List View) (outs : List (Out A)) : Type 0 where
+  pub told : AreSeen seen outs
+  pub asked : IsSeenIn seen turn
+
 -- the same for a conversation
 abbrev pub StandsAt : {S T A : Type 0} {s : TallyGhosts S} {t : TallyGhosts T} → Turn A → (reader_old reader_new writer_old writer_new : Option (List ℕ))
     → Totals → Conversation S T A s t → Type 0
 StandsAt turn reader_old reader_new writer_old writer_new counts talk =
     Stands turn reader_old reader_new writer_old writer_new counts talk.inlet talk.line.items talk.is_long talk.answers.outs talk.session talk.share
+    × Knows turn (seen_by talk.sight) talk.answers.outs
 
 -- how a conversation may end if its reader gives no more
 abbrev pub IsReaders : Ended → Type 0
@@ -126,6 +139,14 @@ StagesBy (heard.Refused outside) session old new = new ≡ old
 StagesBy (heard.Kept kept) session old new = new ≡ old
 StagesBy heard.NotYet session old new = new ≡ old
 StagesBy (heard.Ended ended) session old new = new ≡ old
+
+-- the entry of what was staged for it was seen
+abbrev pub ShowsHeard : {A : Type 0} → Heard A → List View → Type 0
+ShowsHeard (heard.Asked ticket) seen = WasStaged seen ticket
+ShowsHeard (heard.Refused outside) seen = Unit {0}
+ShowsHeard (heard.Kept kept) seen = Unit {0}
+ShowsHeard heard.NotYet seen = Unit {0}
+ShowsHeard (heard.Ended ended) seen = Unit {0}
 
 -- the ticket or the refusal that a line gets
 abbrev pub FitsLine : {A : Type 0} → List ℕ → Heard A → Type 0

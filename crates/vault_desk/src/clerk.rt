@@ -2,8 +2,10 @@
 ghost use Rattle.std.specs.Prelude.{◌≡◌, ◌≢◌, ◌+◌, ◌≤◌, ◌<◌, ℕ, List, Option, false, [], ◌∷◌, ◌++◌, IfOk, IfErr, OnOk, OnErr, IfSome, length, true};
 ghost use Rattle.vault_lines.specs.Limits.{longest_line};
 ghost use Rattle.vault_desk.specs.Serving.{Counts, session_of, session_after as session_after_out};
-ghost use Rattle.vault_desk.specs.Looking.{IsFor, CountsLooked};
-ghost use Rattle.vault_desk.specs.Talking.{HeardPart, IsHeard, StagesBy, FitsLine, IsAnswered, StandsAt};
+ghost use mathlib.Core.List.{IsPrefix};
+ghost use Rattle.vault_desk.specs.Looking.{IsFor, CountsLooked, ShowsLooked};
+ghost use Rattle.vault_desk.specs.Sights.{seen_by, WasStaged};
+ghost use Rattle.vault_desk.specs.Talking.{HeardPart, IsHeard, StagesBy, ShowsHeard, FitsLine, IsAnswered, StandsAt};
 ghost use Rattle.vault_desk.specs.declared.report.Out.{Out};
 ghost use Rattle.vault_desk.specs.declared.tally.Totals.{Totals};
 ghost use Rattle.vault_desk.specs.declared.turn.Turn.TheVariants as turns;
@@ -16,6 +18,7 @@ use crate::gate::{Gate, Point};
 use crate::looked::Looked;
 use crate::report::{Ended, Out};
 use crate::shared::Shared;
+use crate::sight::Sight;
 use crate::tally::{Share, Tally};
 use crate::turn::{Telling, Turn, is_left, session_after, text_of_out};
 use crate::waits::PendingWait;
@@ -81,7 +84,7 @@ impl<D: Device, S: Tally, T: Tally, A: Allocator + Copy, G: Gate, H: Wait> Clerk
         ensures kept { talk.new.answers.is_kept ≡ talk.old.answers.is_kept }
     {
         if talk.answers.len() >= MAX_LINES {
-            return match connection.next_byte(&mut talk.inlet) {
+            return match talk.inlet.next_byte(connection) {
                 NextByte::Byte(_) | NextByte::Limit => Turn::Over(Ended::Limit),
                 NextByte::End => Turn::Over(Ended::EndOfInput),
                 NextByte::Fault => Turn::Over(Ended::Read),
@@ -112,7 +115,8 @@ impl<D: Device, S: Tally, T: Tally, A: Allocator + Copy, G: Gate, H: Wait> Clerk
         requires { talk.old.answers.has_room ≡ true }
         ensures kept { (talk.new.answers.outs ≡ talk.old.answers.outs ++ out ∷ []) × (talk.new.session ≡ session_after_out talk.old.session out) }
         ensures same { (talk.new.inlet ≡ talk.old.inlet) × (talk.new.line.items ≡ talk.old.line.items) × (talk.new.is_long ≡ talk.old.is_long)
-            × (talk.new.share ≡ talk.old.share) × (talk.new.answers.is_kept ≡ talk.old.answers.is_kept) }
+            × (talk.new.share ≡ talk.old.share) × (talk.new.answers.is_kept ≡ talk.old.answers.is_kept)
+            × (talk.new.sight ≡ talk.old.sight) }
         ensures told { IsAnswered out result }
     {
         let text = text_of_out(self.alloc, &out);
@@ -137,10 +141,20 @@ impl<D: Device, S: Tally, T: Tally, A: Allocator + Copy, G: Gate, H: Wait> Clerk
         ensures connection { (C.contents connection.new ≡ C.contents connection.old) × (C.names connection.new ≡ C.names connection.old) }
         ensures same { (talk.new.answers ≡ talk.old.answers) × (talk.new.session ≡ talk.old.session) }
         ensures staged { StagesBy result talk.old.session talk.old.share talk.new.share }
+        ensures seen { IsPrefix (seen_by talk.old.sight) (seen_by talk.new.sight) }
+        ensures shown { ShowsHeard result (seen_by talk.new.sight) }
     {
-        match connection.next_line(&mut talk.inlet, &mut talk.line, &mut talk.is_long) {
+        match talk
+            .inlet
+            .next_line(connection, &mut talk.line, &mut talk.is_long)
+        {
             NextLine::Whole => {
-                let heard = self.ask(talk.session, talk.line.as_slice(), &mut talk.share);
+                let heard = self.ask(
+                    talk.session,
+                    talk.line.as_slice(),
+                    &mut talk.sight,
+                    &mut talk.share,
+                );
                 talk.begin_line();
                 heard
             }
@@ -165,9 +179,17 @@ impl<D: Device, S: Tally, T: Tally, A: Allocator + Copy, G: Gate, H: Wait> Clerk
     }
 
     // Stages the command that a line spells, or keeps it where it is a `wait` that may be kept.
-    fn ask(&self, session: u32, line: &[u8], share: &mut Share<S, T>) -> Heard<A>
+    fn ask(
+        &self,
+        session: u32,
+        line: &[u8],
+        sight: &mut Option<Sight<S>>,
+        share: &mut Share<S, T>,
+    ) -> Heard<A>
         ensures fits { length line.now ≤ longest_line → FitsLine line.now result }
         ensures staged { StagesBy result session share.old share.new }
+        ensures seen { IsPrefix (seen_by sight.old) (seen_by sight.new) }
+        ensures shown { ShowsHeard result (seen_by sight.new) }
     {
         let command = match read_line_of(self.alloc, line) {
             Ok(command) => command,
@@ -178,7 +200,7 @@ impl<D: Device, S: Tally, T: Tally, A: Allocator + Copy, G: Gate, H: Wait> Clerk
             drop(command);
             return Heard::Kept(kept);
         }
-        match self.stage(session, command, share) {
+        match self.stage(session, command, sight, share) {
             Ok(ticket) => Heard::Asked(ticket),
             Err(cause) => Heard::Refused(cause),
         }
@@ -230,7 +252,12 @@ impl<D: Device, S: Tally, T: Tally, A: Allocator + Copy, G: Gate, H: Wait> Clerk
         if talk.answers.reserve().is_err() {
             return Turn::Over(Ended::NoMemory);
         }
-        match self.stage(talk.session, Command::Await(claim), &mut talk.share) {
+        match self.stage(
+            talk.session,
+            Command::Await(claim),
+            &mut talk.sight,
+            &mut talk.share,
+        ) {
             Ok(ticket) => {
                 self.gate.at(Point::Staged(talk.connection));
                 Turn::Wait(ticket)
@@ -244,35 +271,41 @@ impl<D: Device, S: Tally, T: Tally, A: Allocator + Copy, G: Gate, H: Wait> Clerk
         &self,
         session: u32,
         command: CommandIn<A>,
+        sight: &mut Option<Sight<S>>,
         share: &mut Share<S, T>,
     ) -> Result<Ticket<A>, Cause>
         ensures ok { IfOk result
             (λ ticket. (ticket.session ≡ session) × (ticket.command ≡ command)
             × (share.new ≡ record share.old { staged = share.old.staged + 1 })) }
         ensures err { IfErr result (λ cause. (cause ≢ BadLine) × (share.new ≡ share.old)) }
+        ensures seen { IsPrefix (seen_by sight.old) (seen_by sight.new) }
+        ensures shown { IfOk result (λ ticket. WasStaged (seen_by sight.new) ticket) }
     {
-        match self.try_stage(session, command, share) {
+        match self.try_stage(session, command, sight, share) {
             Ok(ticket) => Ok(ticket),
             Err(why) => Err(why.into_cause()),
         }
     }
 
-    /// Stages a command, and wakes the flusher if it is to be woken. If there is no room, it wakes the flusher too.
+    /// Stages a command, shows its entry, and wakes the flusher if it is to be woken. If there is no room, it wakes the flusher too.
     pub fn try_stage(
         &self,
         session: u32,
         command: CommandIn<A>,
+        sight: &mut Option<Sight<S>>,
         share: &mut Share<S, T>,
     ) -> Result<Ticket<A>, NotStaged>
         ensures ok { IfOk result
             (λ ticket. (ticket.session ≡ session) × (ticket.command ≡ command)
             × (share.new ≡ record share.old { staged = share.old.staged + 1 })) }
         ensures err { IfErr result (λ why. (why ≢ BadLine) × (share.new ≡ share.old)) }
+        ensures seen { IsPrefix (seen_by sight.old) (seen_by sight.new) }
+        ensures shown { IfOk result (λ ticket. WasStaged (seen_by sight.new) ticket) }
     {
         let shared = self.shared;
         let may_change = may_change(&command);
         let mut desk = shared.desk.lock(self.rt);
-        match desk.stage_on(session, command, share) {
+        match desk.stage_on(self.rt, session, command, sight, share) {
             Ok(ticket) => {
                 let wakes = desk.wakes_flusher(may_change);
                 drop(desk);
@@ -301,7 +334,7 @@ impl<D: Device, S: Tally, T: Tally, A: Allocator + Copy, G: Gate, H: Wait> Clerk
             self.forget(ticket);
             return Turn::Over(Ended::NoMemory);
         }
-        match self.look(ticket, &mut talk.share) {
+        match self.look(ticket, &mut talk.sight, &mut talk.share) {
             Looked::Told(receipt) => {
                 self.gate.at(Point::Told(talk.connection));
                 self.answer(talk, Out::Told(receipt))
@@ -319,12 +352,22 @@ impl<D: Device, S: Tally, T: Tally, A: Allocator + Copy, G: Gate, H: Wait> Clerk
     }
 
     // Looks for a reply.
-    fn look(&self, ticket: Ticket<A>, share: &mut Share<S, T>) -> Looked<A>
+    fn look(
+        &self,
+        ticket: Ticket<A>,
+        sight: &mut Option<Sight<S>>,
+        share: &mut Share<S, T>,
+    ) -> Looked<A>
         ensures of_ticket { IsFor ticket result }
         ensures counted { CountsLooked share.old result share.new }
+        ensures seen { IsPrefix (seen_by sight.old) (seen_by sight.new) }
+        ensures shown { ShowsLooked (seen_by sight.old) ticket result (seen_by sight.new) }
     {
         let shared = self.shared;
-        shared.desk.lock(self.rt).look(ticket, share)
+        shared
+            .desk
+            .lock(self.rt)
+            .look(self.rt, ticket, sight, share)
     }
 
     // Wakes the flusher, if it is to be woken.

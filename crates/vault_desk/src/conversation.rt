@@ -1,8 +1,9 @@
 //! What a conversation over one connection keeps from one step to the next.
-ghost use Rattle.std.specs.Prelude.{◌≡◌, ◌≤◌, [], IfOk, IfErr, vec_capacity, false};
+ghost use Rattle.std.specs.Prelude.{◌≡◌, ◌≤◌, [], IfOk, IfErr, None, vec_capacity, false};
 ghost use Rattle.vault_lines.specs.Limits.{longest_line};
 
 use crate::answers::Answers;
+use crate::sight::Sight;
 use crate::tally::{Share, Tally};
 use line_inlet::Inlet;
 use std::alloc::Allocator;
@@ -25,6 +26,8 @@ pub struct Conversation<S: Tally, T: Tally, A: Allocator> {
     pub session: u32,
     /// What it counted.
     pub share: Share<S, T>,
+    /// What it saw of the vault. It grows with each command that is staged, and with each reply.
+    pub sight: Option<Sight<S>>,
     ghost room: { longest_line ≤ vec_capacity line },
 }
 
@@ -37,7 +40,8 @@ impl<S: Tally, T: Tally, A: Allocator + Copy> Conversation<S, T, A> {
         share: Share<S, T>,
     ) -> Result<Conversation<S, T, A>, Share<S, T>>
         ensures made { IfOk result (λ talk. (talk.inlet ≡ record { pending = []; taken = 0 }) × (talk.line.items ≡ []) × (talk.is_long ≡ false)
-            × (talk.answers ≡ record { outs = []; is_kept = keeps; has_room = false }) × (talk.session ≡ 0) × (talk.share ≡ share)) }
+            × (talk.answers ≡ record { outs = []; is_kept = keeps; has_room = false }) × (talk.session ≡ 0) × (talk.share ≡ share)
+            × (talk.sight ≡ None)) }
         ensures handed_back { IfErr result (λ back. back ≡ share) }
     {
         let mut line = Vec::new(alloc);
@@ -52,6 +56,7 @@ impl<S: Tally, T: Tally, A: Allocator + Copy> Conversation<S, T, A> {
             answers: Answers::new(alloc, keeps),
             session: 0,
             share,
+            sight: None,
         })
     }
 
@@ -59,7 +64,7 @@ impl<S: Tally, T: Tally, A: Allocator + Copy> Conversation<S, T, A> {
     pub(crate) fn begin_line(&mut self)
         ensures begun { (self.new.line.items ≡ []) × (self.new.is_long ≡ false) }
         ensures same { (self.new.inlet ≡ self.old.inlet) × (self.new.answers ≡ self.old.answers) × (self.new.session ≡ self.old.session)
-            × (self.new.share ≡ self.old.share) }
+            × (self.new.share ≡ self.old.share) × (self.new.sight ≡ self.old.sight) }
     {
         self.line.clear();
         self.is_long = false;

@@ -1,32 +1,36 @@
 //! What lies under the lock.
-ghost use Rattle.std.specs.Prelude.{◌≡◌, ◌≢◌, ◌+◌, ◌≤◌, ◌↔◌, ◌⊎◌, ℕ, IsTrue, IfOk, IfErr, IfSome, OnOk, OnErr, Ok, Some, true, false};
+ghost use Rattle.std.specs.Prelude.{◌≡◌, ◌≢◌, ◌+◌, ◌≤◌, ◌↔◌, ◌⊎◌, ◌++◌, ◌∷◌, [], List, ℕ, IsTrue, IfOk, IfErr, IfSome, OnOk, OnErr, Ok, Some, true, false};
 ghost use Rattle.group_commit.specs.History.{entry_of};
 ghost use Rattle.vault_model.specs.declared.replies.Outside.TheVariants.{BadLine};
 ghost use Rattle.vault_store.specs.declared.starting.Started.TheVariants as Started;
 ghost use Rattle.vault_store.specs.Seen.{wants_snapshot};
 ghost use Rattle.group_commit.specs.World.{Stage, StartSnapshot};
-ghost use Rattle.group_commit.specs.View.{length_of, book_of, view_acted};
+ghost use Rattle.group_commit.specs.View.{View, length_of, book_of, view_acted};
 ghost use Rattle.group_commit.specs.Seen.{snapshot_length};
 ghost use Rattle.group_commit.specs.Ticket.{ticket_of};
 ghost use Rattle.group_commit.specs.Calls.{IsReason, IsRedeemed, IsForgotten, IsRetired, MayStart};
 ghost use Rattle.group_commit.specs.Pasts.{IsAnswered};
 ghost use Rattle.vault_desk.specs.Tallies.{IsOfTicket, CountsRedeem};
-ghost use Rattle.vault_desk.specs.Looking.{IsFor, IsLooked, ChangesLooked, CountsLooked};
+ghost use Rattle.vault_desk.specs.Looking.{IsFor, IsLooked, ChangesLooked, CountsLooked, ShowsLooked};
 ghost use Rattle.vault_desk.specs.Pumping.{IsPumped, IsAtRest};
 ghost use Rattle.vault_desk.specs.Waiting.{IsQueued, IsStandingQueued};
+ghost use mathlib.Core.List.{IsPrefix};
 ghost use Rattle.vault_desk.specs.Acts.{GoesOn};
+ghost use Rattle.vault_desk.specs.Sights.{WentThrough, IsStaged, WasStaged, seen_by};
 ghost use Rattle.vault_desk.specs.declared.flusher.Flushed.TheVariants as Flushed;
 ghost use Rattle.vault_desk.specs.declared.desk.Due.TheVariants as Due;
 
 use crate::cause::{Cause, NotStaged};
 use crate::flusher::Flushed;
 use crate::looked::Looked;
+use crate::sight::{Past, Sight, add_to};
 use crate::tally::{Share, Tally};
 use crate::waits::{PendingWait, Waits, may_move};
 use flusher_pace::{Commit, Gathering, Pace, Silence, begins_snapshot};
 use group_commit::{Forgotten, Phase, Pumped, Redeemed, Retired, Started, Ticket, Vault};
 use std::alloc::{Allocator, Global};
 use std::marker::Model;
+use std::sync::Wait;
 use std::sync::ledger::Book as LedgerBook;
 use std::time::{Clock, Duration};
 use vault_device::{Device, Fault};
@@ -57,6 +61,10 @@ pub struct Desk<D: Device, S: Tally, T: Tally, A: Allocator = Global> {
     pub(crate) told: LedgerBook<T>,
     /// The share that counts what there was when the desk was opened.
     pub(crate) opening: Share<S, T>,
+    /// The vault's past.
+    pub(crate) past: Past<S>,
+    /// All that was seen of it.
+    pub(crate) sight: Sight<S>,
     /// Whether the flusher is to end once all is durable.
     pub(crate) closed: bool,
     /// When the flusher sleeps, and how many entries it waits for. Contracts don't see it.
@@ -72,14 +80,15 @@ impl<D: Device, S: Tally, T: Tally, A: Allocator> Model for Desk<D, S, T, A> {
     ghost use Rattle.group_commit.specs.View.{length_of};
     ghost use Rattle.vault_desk.specs.AtDesk.{AtDesk};
     ghost use Rattle.vault_desk.specs.Acts.{GoesOn};
+    ghost use Rattle.vault_desk.specs.Sights.{WentThrough};
 
     ghost Value = { AtDesk D };
 
     ghost view = { λ d. record { vault = d.vault; closed = d.closed } };
 
-    // Invariants 1 to 4 of lib.rt, in this order; the third takes two clauses.
+    // Invariants 1 to 5 of lib.rt, in this order; the third takes two clauses.
     ghost invariant = { λ d. (d.staged.total ≡ length_of d.vault.view) × (d.told.total ≡ d.vault.view.told) × (d.opening.staged ≡ length_of S.beginning)
-        × (d.opening.told ≡ T.beginning.told) × GoesOn S.beginning d.vault.view };
+        × (d.opening.told ≡ T.beginning.told) × GoesOn S.beginning d.vault.view × WentThrough S.beginning d.vault.view d.sight };
 }
 
 impl<D: Device, S: Tally, T: Tally, A: Allocator + Copy> Desk<D, S, T, A> {
@@ -195,17 +204,22 @@ impl<D: Device, S: Tally, T: Tally, A: Allocator + Copy> Desk<D, S, T, A> {
         staged: LedgerBook<S>,
         told: LedgerBook<T>,
         opening: Share<S, T>,
+        seen: (Past<S>, Sight<S>),
     ) -> Desk<D, S, T, A>
         requires books { (staged.total ≡ length_of vault.view) × (told.total ≡ vault.view.told) }
         requires opening { (opening.staged ≡ length_of S.beginning) × (opening.told ≡ T.beginning.told) }
         requires acts { GoesOn S.beginning vault.view }
+        requires seen { seen.1 ≡ [] }
         ensures { result ≡ record { vault = vault; closed = false } }
     {
+        let (past, sight) = seen;
         Desk {
             vault,
             staged,
             told,
             opening,
+            past,
+            sight,
             closed: false,
             pace: Pace::new(),
             last: Commit::none(),
@@ -225,11 +239,30 @@ impl<D: Device, S: Tally, T: Tally, A: Allocator + Copy> Desk<D, S, T, A> {
         started
     }
 
-    // Stages a command. One that is refused is dropped, and the vault gives the cause.
-    pub(crate) fn stage_on(
+    // Adds the vault as it is to what was seen of it, and gives all that.
+    pub(crate) fn show<H: Wait>(&mut self, rt: &H) -> Sight<S>
+        ensures same { self.new ≡ self.old }
+        ensures shown { (before : List View) × (result ≡ before ++ self.old.vault.view ∷ []) }
+        ensures went { WentThrough S.beginning self.old.vault.view result }
+    {
+        self.sight = self.sight.and(rt, &self.past, &self.vault);
+        self.sight.again()
+    }
+
+    // Whether the vault went through all that somebody saw.
+    fn went_through(&self, sight: &Option<Sight<S>>) -> bool
+        ensures { IsTrue result → WentThrough S.beginning self.now.vault.view (seen_by sight.now) }
+    {
+        self.sight.covers(sight)
+    }
+
+    // Stages a command, and shows its entry. One that is refused is dropped, and the vault gives the cause.
+    pub(crate) fn stage_on<H: Wait>(
         &mut self,
+        rt: &H,
         session: u32,
         command: CommandIn<A>,
+        sight: &mut Option<Sight<S>>,
         share: &mut Share<S, T>,
     ) -> Result<Ticket<A>, NotStaged>
         ensures ok { IfOk result
@@ -239,13 +272,15 @@ impl<D: Device, S: Tally, T: Tally, A: Allocator + Copy> Desk<D, S, T, A> {
         ensures reason { IfErr result (λ cause. IsReason self.old.vault cause) }
         ensures open { self.new.closed ≡ self.old.closed }
         ensures answered { IsAnswered self.old.vault self.new.vault }
+        ensures seen { IsPrefix (seen_by sight.old) (seen_by sight.new) }
+        ensures shown { IfOk result (λ ticket. WasStaged (seen_by sight.new) ticket) }
     {
         let moves = may_move(&command);
         match self.stage(session, command, share) {
             Ok(ticket) => {
-                if moves {
-                    self.waits.moved();
-                }
+                self.waits.staged(moves);
+                let shown = self.show(rt);
+                add_to(sight, shown);
                 Ok(ticket)
             }
             Err((outside, command)) => {
@@ -255,17 +290,33 @@ impl<D: Device, S: Tally, T: Tally, A: Allocator + Copy> Desk<D, S, T, A> {
         }
     }
 
-    // Looks for the reply to the command that a ticket is for. If it is lost, the vault gives the cause.
-    pub(crate) fn look(&mut self, ticket: Ticket<A>, share: &mut Share<S, T>) -> Looked<A>
+    // Looks for the reply to the command that a ticket is for, and shows that its entry is acknowledged. If it is lost, the vault gives
+    // the cause. Whoever asks saw this vault alone, and else gets no reply.
+    pub(crate) fn look<H: Wait>(
+        &mut self,
+        rt: &H,
+        ticket: Ticket<A>,
+        sight: &mut Option<Sight<S>>,
+        share: &mut Share<S, T>,
+    ) -> Looked<A>
         ensures looked { IsLooked self.old.vault ticket result }
         ensures changed { ChangesLooked self.old.vault self.new.vault ticket result }
         ensures of_ticket { IsFor ticket result }
         ensures counted { CountsLooked share.old result share.new }
         ensures open { self.new.closed ≡ self.old.closed }
         ensures answered { IsAnswered self.old.vault self.new.vault }
+        ensures seen { IsPrefix (seen_by sight.old) (seen_by sight.new) }
+        ensures shown { ShowsLooked (seen_by sight.old) ticket result (seen_by sight.new) }
     {
+        if ticket.position() < self.vault.durable() && !self.went_through(sight) {
+            return Looked::NoMemory(ticket);
+        }
         match self.redeem(ticket, share) {
-            Redeemed::Told(receipt) => Looked::Told(receipt),
+            Redeemed::Told(receipt) => {
+                let shown = self.show(rt);
+                add_to(sight, shown);
+                Looked::Told(receipt)
+            }
             Redeemed::NotYet(ticket) => Looked::NotYet(ticket),
             Redeemed::Unknown(ticket) => {
                 let cause = Cause::of_ticket(&self.vault, &ticket);

@@ -3,7 +3,8 @@
 //! Promises: whenever the lock is free the vault keeps its laws, the tallies count what was staged and acknowledged, and the vault came
 //! from the one that was put there by acts of its calls alone, which are a run (`laws::acts_are_a_run`). A line is heard, staged and
 //! answered so that a conversation stands as `StandsAt` says before and after (`Clerk`), and an answer is written as `TellsOn` says
-//! (`tell`). An answer that speaks of the vault's state was made from a vault in that state (`Cause`, `NotStaged`). The shares of all
+//! (`tell`). A receipt is of an entry that the vault acknowledged, and what a conversation saw (`Sight`) shows that of the vault that is
+//! given back (`gather`, `laws::receipts_stand_in_the_history`). An answer that speaks of the vault's state was made from a vault in that state (`Cause`, `NotStaged`). The shares of all
 //! workers sum to what the history grew by (`gather`). A pump, the start of a snapshot and the retiring of an entry are one act of the
 //! vault each, and change no tally (`Desk`). For `run_flusher`, `Flusher`, `Clerk::{forget, stops_waiting}` and `Shared::{close, moves,
 //! settlings, wait}` only safety is proved.
@@ -15,9 +16,11 @@
 //! 2. `Desk`: the told tally is the number of acknowledged entries.
 //! 3. `Desk`: the opening share counts what was there when the desk was opened, and never changes.
 //! 4. `Desk`: the vault came from the one that the desk was opened with by acts of its calls alone.
-//! 5. `Shared`: each ledger has one part for each worker, and one for the opening.
-//! 6. `Share`: it has one part of each ledger, whose amount is the share's count.
-//! 7. `Conversation`: the buffer has room for the longest line.
+//! 5. `Desk`: on the way it went through all that was seen of it.
+//! 6. `Shared`: each ledger has one part for each worker, and one for the opening.
+//! 7. `Share`: it has one part of each ledger, whose amount is the share's count.
+//! 8. `Sight`: it is of the past that its vault's tallies name, and has as many moments as it counts.
+//! 9. `Conversation`: the buffer has room for the longest line.
 //!
 //! Only tested: the flusher waits for a client that comes back, goes on without one that doesn't, and runs until the desk is closed; it
 //! begins a snapshot where one is wanted; if memory for that is refused, it commits and begins the snapshot then; it makes one pump per
@@ -33,10 +36,13 @@ mod conversation;
 mod desk;
 mod flusher;
 mod gate;
+mod last_flush;
 pub mod laws;
 mod looked;
+mod moment;
 mod report;
 mod shared;
+mod sight;
 mod tally;
 mod turn;
 mod waits;
@@ -48,8 +54,10 @@ pub use conversation::Conversation;
 pub use desk::{Desk, Due};
 pub use flusher::{Flushed, Flusher, run_flusher};
 pub use gate::{Gate, OpenGate, Point};
+pub use last_flush::flush;
 pub use report::{Ended, Out};
 pub use shared::{Shared, gather};
+pub use sight::{NewPast, Sight};
 pub use tally::{Share, Tally, Totals};
 pub use turn::{Telling, Turn, tell};
 pub use waits::PendingWait;

@@ -2,8 +2,10 @@
 ghost use Rattle.std.specs.Prelude.{◌≡◌, ◌+◌, ◌<◌, ◌≤◌, ◌^◌, ◌↔◌, IfOk, IfErr, IsOk, All, sum_by, vec_len, false};
 ghost use Rattle.group_commit.specs.View.{length_of};
 ghost use Rattle.vault_desk.specs.Acts.{GoesOn};
+ghost use Rattle.vault_desk.specs.Sights.{WentThrough};
 
 use crate::desk::Desk;
+use crate::sight::{NewPast, Sight};
 use crate::tally::{Share, Tally, Totals};
 use group_commit::Vault;
 use std::alloc::{AllocError, Allocator, Global};
@@ -30,7 +32,7 @@ impl<D: Device, S: Tally, T: Tally, A: Allocator> Model for Shared<D, S, T, A> {
 
     ghost view = { λ s. s.workers };
 
-    // Invariant 5 of lib.rt.
+    // Invariant 6 of lib.rt.
     ghost invariant = { λ s. (s.workers + 1 ≡ S.all) × (s.workers + 1 ≡ T.all) };
 }
 
@@ -39,6 +41,7 @@ impl<D: Device, S: Tally, T: Tally, A: Allocator + Copy> Shared<D, S, T, A> {
     /// one more. Where memory is refused, the vault comes back.
     pub fn new(
         alloc: A,
+        past: NewPast,
         staged: Blank,
         told: Blank,
         vault: Vault<D, A>,
@@ -48,6 +51,7 @@ impl<D: Device, S: Tally, T: Tally, A: Allocator + Copy> Shared<D, S, T, A> {
         requires whole { (S.all ≡ S.parts) × (T.all ≡ T.parts) }
         requires staged { (staged.name ≡ S.name) × (staged.parts ≡ S.parts) × (S.all ≡ workers + 1) × (S.beginning ≡ vault.view) }
         requires told { (told.name ≡ T.name) × (told.parts ≡ T.parts) × (T.all ≡ workers + 1) × (T.beginning ≡ vault.view) }
+        requires past { past ≡ S.book }
         ensures shares { IfOk result (λ made. (made.0 ≡ workers) × (vec_len made.1 ≡ workers)) }
         ensures empty { IfOk result (λ made. All (λ share. (share.staged ≡ 0) × (share.told ≡ 0)) made.1.items) }
         ensures handed_back { IfErr result (λ back. back ≡ vault) }
@@ -73,7 +77,7 @@ impl<D: Device, S: Tally, T: Tally, A: Allocator + Copy> Shared<D, S, T, A> {
             staged: staged_rest,
             told: told_rest,
         };
-        let desk = Desk::new(vault, staged, told, opening);
+        let desk = Desk::new(vault, staged, told, opening, past.begin());
         Ok((Shared::over(desk, workers), shares))
     }
 
@@ -106,6 +110,8 @@ impl<D: Device, S: Tally, T: Tally, A: Allocator + Copy> Shared<D, S, T, A> {
             staged: _,
             told: _,
             opening: _,
+            past: _,
+            sight: _,
             closed: _,
             pace: _,
             last: _,
@@ -143,11 +149,12 @@ impl<D: Device, S: Tally, T: Tally, A: Allocator + Copy> Shared<D, S, T, A> {
     }
 }
 
-/// Takes the vault out of its lock, with what was counted since it was put there. Where a share is missing, all comes back.
+/// Takes the vault out of its lock, with what was counted since it was put there, and all that was seen of it. Where a share is missing,
+/// all comes back.
 pub fn gather<D: Device, S: Tally, T: Tally, A: Allocator + Copy>(
     shared: Shared<D, S, T, A>,
     shares: Vec<Share<S, T>, A>,
-) -> Result<(Vault<D, A>, Totals), (Shared<D, S, T, A>, Vec<Share<S, T>, A>)>
+) -> Result<(Vault<D, A>, Totals, Sight<S>), (Shared<D, S, T, A>, Vec<Share<S, T>, A>)>
     requires { (S.all ≡ S.parts) × (T.all ≡ T.parts) }
     ensures all { IsOk result ↔ (vec_len shares ≡ shared) }
     ensures totals { IfOk result (λ gathered. (gathered.1.staged ≡ sum_by (λ share. share.staged) shares.items)
@@ -156,6 +163,7 @@ pub fn gather<D: Device, S: Tally, T: Tally, A: Allocator + Copy>(
         (λ gathered. (length_of gathered.0.view ≡ length_of S.beginning + gathered.1.staged)
         × (gathered.0.view.told ≡ T.beginning.told + gathered.1.told)) }
     ensures acts { IfOk result (λ gathered. GoesOn S.beginning gathered.0.view) }
+    ensures seen { IfOk result (λ gathered. WentThrough S.beginning gathered.0.view gathered.2) }
     ensures handed_back { IfErr result (λ back. (back.0 ≡ shared) × (back.1.items ≡ shares.items)) }
 {
     if shares.len() != shared.workers {
@@ -200,19 +208,22 @@ fn cut<S: Tally, T: Tally, A: Allocator>(
 fn merge<D: Device, S: Tally, T: Tally, A: Allocator + Copy>(
     desk: Desk<D, S, T, A>,
     shares: Vec<Share<S, T>, A>,
-) -> (Vault<D, A>, Totals)
+) -> (Vault<D, A>, Totals, Sight<S>)
     requires { (vec_len shares + 1 ≡ S.parts) × (vec_len shares + 1 ≡ T.parts) }
     ensures totals { (result.1.staged ≡ sum_by (λ share. share.staged) shares.items)
         × (result.1.told ≡ sum_by (λ share. share.told) shares.items) }
     ensures grown { (length_of result.0.view ≡ length_of S.beginning + result.1.staged)
         × (result.0.view.told ≡ T.beginning.told + result.1.told) }
     ensures acts { GoesOn S.beginning result.0.view }
+    ensures seen { WentThrough S.beginning result.0.view result.2 }
 {
     let Desk {
         vault,
         staged,
         told,
         opening,
+        past: _,
+        sight,
         closed: _,
         pace: _,
         last: _,
@@ -221,7 +232,7 @@ fn merge<D: Device, S: Tally, T: Tally, A: Allocator + Copy>(
     let _length = vault.len();
     let _told = vault.told();
     let totals = add_up(staged, told, opening, shares);
-    (vault, totals)
+    (vault, totals, sight)
 }
 
 // The sum of what all shares count. Together with the opening share it is the total of each book.

@@ -8,17 +8,24 @@ use std::sync::ledger::{Book as LedgerBook, Ledger, Share as Part};
 
 /// A ledger that counts for one `Shared`.
 pub trait Tally: Ledger {
+    ghost use Rattle.logbook.specs.Pages.{Book};
+
     /// The view of the vault when that was made: what it had then isn't counted.
     ghost beginning: { View };
 
     /// All its parts: one for each worker, and one for what was counted before.
     ghost all: { ℕ };
+
+    /// What the vault's past is kept in (`NewPast`).
+    ghost book: { Book };
 }
 
 impl Tally for Brand {
     ghost beginning = { opened_view new_vault };
 
     ghost all = { 0 };
+
+    ghost book = { record { number = 0; log_name = 0; cells_name = 0 } };
 }
 
 /// How many commands were staged, and how many replies were handed out.
@@ -47,7 +54,7 @@ impl<S: Tally, T: Tally> Model for Share<S, T> {
 
     ghost view = { λ s. s.counts };
 
-    // Invariant 6 of lib.rt.
+    // Invariant 7 of lib.rt.
     ghost invariant = { λ s. (s.staged.parts ≡ 1) × (s.staged.amount ≡ s.counts.staged)
         × (s.told.parts ≡ 1) × (s.told.amount ≡ s.counts.told) };
 }

@@ -57,6 +57,13 @@ impl Waits {
         self.moves = self.moves.wrapping_add(1);
     }
 
+    /// A command was staged. Where it may have moved the queue of claims, those who wait look again.
+    pub fn staged(&mut self, moves: bool) {
+        if moves {
+            self.moved();
+        }
+    }
+
     /// There may be a reply now, or room.
     pub fn settled(&mut self) {
         self.settlings = self.settlings.wrapping_add(1);

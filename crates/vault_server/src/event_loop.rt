@@ -314,9 +314,10 @@ impl<D: Device, S: Tally, T: Tally, A: Allocator + Copy, G: Gate, H: Wait + Cloc
         {
             let Accepted {
                 number: over,
-                stream,
+                mut stream,
             } = connection;
-            turn_away(self.worker.alloc, stream);
+            turn_away(self.worker.alloc, &mut stream);
+            drop(stream);
             self.say(News::Over(self.number, over));
             return;
         }

@@ -1,7 +1,8 @@
 //! A server over TCP: few threads serve all connections by the steps of their conversations, and commit what these staged.
 //!
 //! Promises: if a server ends well, its vault came from the one that it was given by acts of calls alone, each allowed where it stood. Its
-//! history grew by exactly the commands that its workers staged, and it acknowledged as many as they counted (`run_server`). A slot holds
+//! history grew by exactly the commands that its workers staged, and it acknowledged as many as they counted; it is broken, or all of it is
+//! durable (`run_server`). A slot holds
 //! a `Dialogue`, so what each conversation heard, answered and counted is as `vault_sessions` says, in whichever order steps are taken. For
 //! all else here only safety is proved.
 //! Stands on: vault_sessions, tcp_door, flusher_pace, and what they stand on. Must not know: what a command does, or what a line says.

@@ -1,8 +1,9 @@
 //! A server over TCP.
-ghost use Rattle.std.specs.Prelude.{◌≡◌, ◌+◌, ◌<◌, ◌≤◌, IfOk};
+ghost use Rattle.std.specs.Prelude.{◌≡◌, ◌+◌, ◌<◌, ◌≤◌, ◌⊎◌, true, IfOk};
 ghost use Rattle.std.specs.Thread.{IsSend, IsSync};
 ghost use Rattle.vault_sessions.specs.Tallies.{HasGrown};
 ghost use Rattle.vault_sessions.specs.Acts.{GoesOn};
+ghost use Rattle.vault_sessions.specs.Pumping.{IsAtRest};
 ghost use denote.Param.Send.{Frees};
 
 use crate::commits::CommitToken;
@@ -21,7 +22,9 @@ use std::time::{Clock, Duration};
 use tcp_door::{Accepted, Bell, Crowd, Door, DoorError, DoorOptions, News};
 use thiserror::Error;
 use vault_device::Device;
-use vault_sessions::{Gate, Share, Shared, Tally, Totals, Worker, gather, run_flusher};
+use vault_sessions::{
+    Gate, NewPast, Share, Shared, Tally, Totals, Worker, flush, gather, run_flusher,
+};
 
 // By how many threads a server serves at most, if no options say it.
 const MAX_THREADS: usize = 2;
@@ -101,6 +104,7 @@ pub fn run_server<
     requires frees { Frees A.Allocator A.dealloc_token }
     ensures grown { IfOk result (λ served. HasGrown vault.view served.0.view served.1) }
     ensures acts { IfOk result (λ served. GoesOn vault.view served.0.view) }
+    ensures flushed { IfOk result (λ served. (served.0.view.broken ≡ true) ⊎ IsAtRest served.0.view) }
 {
     let options = ServerOptions {
         workers,
@@ -139,10 +143,21 @@ pub fn run_server_on<
     requires frees { Frees A.Allocator A.dealloc_token }
     ensures grown { IfOk result (λ served. HasGrown vault.view served.0.view served.1) }
     ensures acts { IfOk result (λ served. GoesOn vault.view served.0.view) }
+    ensures flushed { IfOk result (λ served. (served.0.view.broken ≡ true) ⊎ IsAtRest served.0.view) }
 {
     let parts = options.workers as u64 + 1;
     let (staged, told) = (Blank::new(parts), Blank::new(parts));
-    run::<D, A, G, H, Brand, Brand>(rt, alloc, staged, told, listener, vault, options, gate)
+    run::<D, A, G, H, Brand, Brand>(
+        rt,
+        alloc,
+        NewPast::new(),
+        staged,
+        told,
+        listener,
+        vault,
+        options,
+        gate,
+    )
 }
 
 // The same, over the ledgers of one run.
@@ -156,6 +171,7 @@ fn run<
 >(
     rt: &H,
     alloc: A,
+    past: NewPast,
     staged: Blank,
     told: Blank,
     listener: TcpListener,
@@ -169,8 +185,10 @@ fn run<
     requires staged { (staged.name ≡ S.name) × (staged.parts ≡ S.parts) × (S.all ≡ options.now.workers + 1)
         × (S.beginning ≡ vault.view) }
     requires told { (told.name ≡ T.name) × (told.parts ≡ T.parts) × (T.all ≡ options.now.workers + 1) × (T.beginning ≡ vault.view) }
+    requires past { past ≡ S.book }
     ensures grown { IfOk result (λ served. HasGrown vault.view served.0.view served.1) }
     ensures acts { IfOk result (λ served. GoesOn vault.view served.0.view) }
+    ensures flushed { IfOk result (λ served. (served.0.view.broken ≡ true) ⊎ IsAtRest served.0.view) }
 {
     let workers = options.workers;
     let polls = match polls_of(rt, alloc, workers.min(options.threads).max(1)) {
@@ -180,7 +198,8 @@ fn run<
             return Err(error);
         }
     };
-    let (shared, shares) = match Shared::<D, S, T, A>::new(alloc, staged, told, vault, workers) {
+    let made = Shared::<D, S, T, A>::new(alloc, past, staged, told, vault, workers);
+    let (shared, shares) = match made {
         Ok(made) => made,
         Err(vault) => {
             close(vault);
@@ -196,7 +215,11 @@ fn run<
         }
     };
     match gather(shared, returned) {
-        Ok(served) => Ok(served),
+        Ok((vault, totals, _)) => {
+            let mut vault = vault;
+            flush(rt, gate, &mut vault);
+            Ok((vault, totals))
+        }
         Err((shared, shares)) => {
             close(shared.into_vault());
             drop(shares);

@@ -5,8 +5,9 @@ use Rattle.std.specs.Prelude.{◌==◌}
 use Rattle.std.specs.Io.KnownBytes.{Appends}
 use Rattle.std.proofs.KnownBytes.{Appends-nil}
 use Rattle.line_inlet.specs.Inflow.{Inflow}
-use Rattle.vault_desk.specs.Serving.{session_of, left_behind, lost_by, Counts, CountsWith}
-use Rattle.vault_desk.specs.Talking.{Stands, TellsOn}
+use Rattle.group_commit.specs.View.{View}
+use Rattle.vault_desk.specs.Serving.{AreSeen, session_of, left_behind, lost_by, Counts, CountsWith}
+use Rattle.vault_desk.specs.Talking.{Stands, Knows, TellsOn}
 use Rattle.vault_sessions.specs.Dialogues.{IsDone, StandsIn, is_done, has_ended, awaits_of}
 use Rattle.vault_desk.specs.declared.report.Out.{Out}
 use Rattle.vault_desk.specs.declared.report.Ended.{Ended}
@@ -36,6 +37,15 @@ done_ended (Takes turn) e = absurd (cc)
 done_ended (GivenUp ended) e = refl
 done_ended (Done ended left) e = refl
 done_ended TakenOut e = refl
+
+-- writing an answer asks for nothing
+pub told_knows : {A : Type 0} (telling : Telling A) (turn : Turn A) (old new : Option (List ℕ)) (seen : List View) (outs : List (Out A))
+    → TellsOn telling turn old new → AreSeen seen outs → Knows turn seen outs
+told_knows telling Hear old new seen outs is all = record { told = all; asked = tt }
+told_knows telling (Keep kept) old new seen outs is all = record { told = all; asked = tt }
+told_knows telling (Wait ticket) old new seen outs is all = absurd is
+told_knows telling (Tell more) old new seen outs is all = record { told = all; asked = tt }
+told_knows telling (Over ended) old new seen outs is all = record { told = all; asked = tt }
 
 -- a turn that isn't this one is for something else
 pub hears_no_more : {A : Type 0} (turn : Turn A) → (turn ≡ Hear → ⊥) → awaits_of (Takes turn) ≢ awaited.Line

@@ -1,8 +1,10 @@
 -- What holds of a dialogue between two steps. This project's own.
 use Rattle.std.specs.Prelude.{◌≡◌, ◌≢◌, ℕ, ◌≤◌, Bool, true, false, List, length, Option, Some, None}
 use Rattle.line_inlet.specs.Inflow.{Inflow}
-use Rattle.vault_desk.specs.Serving.{most_lines, HeardAll, SpeaksFor, session_of, WritesAll, QuitsBy, CountsAll}
-use Rattle.vault_desk.specs.Talking.{Stands}
+use Rattle.group_commit.specs.View.{View}
+use Rattle.vault_desk.specs.Sights.{seen_by}
+use Rattle.vault_desk.specs.Serving.{AreSeen, most_lines, HeardAll, SpeaksFor, session_of, WritesAll, QuitsBy, CountsAll}
+use Rattle.vault_desk.specs.Talking.{Stands, Knows}
 use Rattle.vault_desk.specs.declared.report.Out.{Out}
 use Rattle.vault_desk.specs.declared.report.Ended.{Ended}
 use Rattle.vault_desk.specs.declared.tally.Tally.{Ghosts as TallyGhosts}
@@ -39,6 +41,13 @@ StandsIn (Done ended left) reader_old reader_new writer_old writer_new counts in
     IsDone ended reader_old reader_new writer_old writer_new counts outs session share × (left ≡ session)
 StandsIn TakenOut reader_old reader_new writer_old writer_new counts inflow kept is_long outs session share = ⊥
 
+-- what it saw of the vault shows what it needs to, by what comes next
+abbrev pub KnowsIn : {A : Type 0} → Next A → List View → List (Out A) → Type 0
+KnowsIn (Takes turn) seen outs = Knows turn seen outs
+KnowsIn (GivenUp ended) seen outs = AreSeen seen outs
+KnowsIn (Done ended left) seen outs = AreSeen seen outs
+KnowsIn TakenOut seen outs = ⊥
+
 -- it left this session, and has the last leave of it
 abbrev pub HasLeft : Option ℕ → ℕ → Type 0
 HasLeft (Some left) session = left ≡ session
@@ -49,6 +58,7 @@ abbrev pub TalksOn : {S T A : Type 0} {s : TallyGhosts S} {t : TallyGhosts T} �
     → Totals → Conversation S T A s t → Type 0
 TalksOn next reader_old reader_new writer_old writer_new counts talk =
     StandsIn next reader_old reader_new writer_old writer_new counts talk.inlet talk.line.items talk.is_long talk.answers.outs talk.session talk.share
+    × KnowsIn next (seen_by talk.sight) talk.answers.outs
 
 -- whether there is no step any more
 abbrev pub is_done : {A : Type 0} → Next A → Bool

@@ -1,6 +1,7 @@
 pub use Rattle.vault_desk.specs.AtDesk
 pub use Rattle.vault_desk.specs.Tallies
 pub use Rattle.vault_desk.specs.Acts
+pub use Rattle.vault_desk.specs.Sights
 pub use Rattle.vault_desk.specs.Pumping
 pub use Rattle.vault_desk.specs.Serving
 pub use Rattle.vault_desk.specs.Talking

@@ -1,9 +1,12 @@
 //! One connection's conversation, from its first byte to its report: the code that serves is the code that is proved.
 ghost use Rattle.std.specs.Prelude.{◌≡◌, ◌≢◌, ◌≤◌, ◌↔◌, ◌||◌, ℕ, Bool, IsTrue, MatchBool, true, false, List, Option, None, IfOk, IfErr, OnOk, OnErr, length, ◌+◌};
+ghost use mathlib.Core.List.{IsPrefix};
 ghost use Rattle.line_inlet.specs.Inflow.{Inflow};
-ghost use Rattle.vault_desk.specs.Serving.{Counts, most_lines, HeardAll, SpeaksFor, session_of, CountsAll, WritesAll, QuitsBy};
-ghost use Rattle.vault_desk.specs.Talking.{Stands, StandsAt};
-ghost use Rattle.vault_sessions.specs.Dialogues.{IsDone, StandsIn, TalksOn, HasLeft, StepsBy, is_done, has_ended, awaits_of};
+ghost use Rattle.group_commit.specs.View.{View};
+ghost use Rattle.vault_desk.specs.Sights.{seen_by};
+ghost use Rattle.vault_desk.specs.Serving.{AreSeen, Counts, most_lines, HeardAll, SpeaksFor, session_of, CountsAll, WritesAll, QuitsBy};
+ghost use Rattle.vault_desk.specs.Talking.{Stands, StandsAt, Knows};
+ghost use Rattle.vault_sessions.specs.Dialogues.{IsDone, StandsIn, KnowsIn, TalksOn, HasLeft, StepsBy, is_done, has_ended, awaits_of};
 ghost use Rattle.vault_desk.specs.declared.report.Out.{Out};
 ghost use Rattle.vault_desk.specs.declared.tally.Totals.{Totals};
 ghost use Rattle.vault_desk.specs.declared.turn.Turn.TheVariants as turns;
@@ -22,8 +25,8 @@ use std::mem;
 use std::snapshot::Snapshot;
 use std::sync::Wait;
 use vault_desk::{
-    Answers, Clerk, Conversation, Ended, Gate, NotStaged, PendingWait, Share, Tally, Telling, Turn,
-    tell,
+    Answers, Clerk, Conversation, Ended, Gate, NotStaged, PendingWait, Share, Sight, Tally,
+    Telling, Turn, tell,
 };
 use vault_device::Device;
 use vault_model::{Command, Outside};
@@ -234,6 +237,7 @@ impl<C: Connection, S: Tally, T: Tally, A: Allocator + Copy> Dialogue<C, S, T, A
         ensures heard { HeardAll self.began.remaining self.remaining result.1.answers.outs result.1.ended }
         ensures few { length result.1.answers.outs ≤ most_lines }
         ensures spoken { SpeaksFor 0 result.1.answers.outs }
+        ensures told { AreSeen (seen_by result.1.sight) result.1.answers.outs }
         ensures session { self.session ≡ session_of 0 result.1.answers.outs }
         ensures written { WritesAll result.1.ended self.began.contents self.contents result.1.answers.outs }
         ensures quit { QuitsBy result.1.ended result.1.answers.outs }
@@ -258,12 +262,14 @@ impl<C: Connection, S: Tally, T: Tally, A: Allocator + Copy> Dialogue<C, S, T, A
             answers,
             session: _,
             share,
+            sight,
         } = talk;
         (
             connection,
             Finished {
                 answers,
                 share,
+                sight,
                 ended,
                 left,
             },
@@ -380,6 +386,7 @@ fn tell_on<A: Allocator, C: Connection>(connection: &mut C, telling: Telling<A>)
         (outs : List (Out A)) (session : ℕ) (share : Totals)
         → Stands (turns.Tell telling) reader_old (C.remaining connection.old) writer_old (C.contents connection.old) counts inflow kept is_long outs session share
         → StandsIn result.0 reader_old (C.remaining connection.new) writer_old (C.contents connection.new) counts inflow kept is_long outs session share }
+    ensures knows { (seen : List View) (outs : List (Out A)) → AreSeen seen outs → KnowsIn result.0 seen outs }
     ensures same { C.names connection.new ≡ C.names connection.old }
     ensures came { StepsBy result.1 awaited.Telling (awaits_of result.0) }
     ensures over { (result.1 ≡ steps.Over) ↔ (is_done result.0 ≡ true) }
@@ -411,7 +418,13 @@ fn leave<D: Device, S: Tally, T: Tally, A: Allocator + Copy, G: Gate, H: Wait>(
     if talk.session == 0 {
         return (Next::Done(ended, LastLeave::of_none()), Step::Over);
     }
-    let left = try_leave(clerk, &talk.answers, talk.session, &mut talk.share);
+    let left = try_leave(
+        clerk,
+        &talk.answers,
+        talk.session,
+        &mut talk.sight,
+        &mut talk.share,
+    );
     let why = match left {
         Ok(left) => return (Next::Done(ended, left), Step::Over),
         Err(why) => why,
@@ -434,6 +447,7 @@ fn try_leave<D: Device, S: Tally, T: Tally, A: Allocator + Copy, G: Gate, H: Wai
     clerk: &Clerk<'_, D, S, T, A, G, H>,
     answers: &Answers<A>,
     session: u32,
+    sight: &mut Option<Sight<S>>,
     share: &mut Share<S, T>,
 ) -> Result<LastLeave, NotStaged>
     requires { session ≡ session_of 0 answers.now.outs }
@@ -441,8 +455,9 @@ fn try_leave<D: Device, S: Tally, T: Tally, A: Allocator + Copy, G: Gate, H: Wai
     ensures staged { OnOk result (share.new ≡ record share.old { staged = share.old.staged + 1 }) }
     ensures refused { OnErr result (share.new ≡ share.old) }
     ensures counted { Counts share.old 0 1 share.new }
+    ensures seen { IsPrefix (seen_by sight.old) (seen_by sight.new) }
 {
-    match clerk.try_stage(session, Command::Leave, share) {
+    match clerk.try_stage(session, Command::Leave, sight, share) {
         Ok(ticket) => {
             let left = LastLeave::staged(&ticket, session);
             clerk.forget(ticket);
@@ -499,6 +514,7 @@ fn let_go<A: Allocator>(next: Next<A>) -> Next<A>
         (outs : List (Out A)) (session : ℕ) (share : Totals)
         → StandsIn next reader_old reader_new writer_old writer_new counts inflow kept is_long outs session share
         → StandsIn result reader_old reader_new writer_old writer_new counts inflow kept is_long outs session share }
+    ensures knows { (seen : List View) (outs : List (Out A)) → KnowsIn next seen outs → KnowsIn result seen outs }
     ensures same { (has_ended result ≡ has_ended next) × (is_done result ≡ is_done next) × (awaits_of result ≡ awaits_of next) }
 {
     match next {
@@ -516,6 +532,7 @@ fn give_up<D: Device, S: Tally, T: Tally, A: Allocator + Copy, G: Gate, H: Wait>
         (outs : List (Out A)) (session : ℕ) (share : Totals)
         → StandsIn next reader_old reader_new writer_old writer_new counts inflow kept is_long outs session share
         → StandsIn result reader_old reader_new writer_old writer_new counts inflow kept is_long outs session share }
+    ensures knows { (seen : List View) (outs : List (Out A)) → KnowsIn next seen outs → KnowsIn result seen outs }
     ensures leaves { MatchBool (is_done next) (awaits_of result ≡ awaited.Nothing) (awaits_of result ≡ awaited.Leave) }
     ensures ended { (has_ended result ≡ true) × (is_done result ≡ is_done next) }
 {
@@ -534,6 +551,7 @@ fn end<A: Allocator>(next: Next<A>) -> (Ended, Option<LastLeave>)
         (outs : List (Out A)) (session : ℕ) (share : Totals)
         → StandsIn next reader_old reader_new writer_old writer_new counts inflow kept is_long outs session share
         → IsDone {A = A} result.0 reader_old reader_new writer_old writer_new counts outs session share }
+    ensures knows { (seen : List View) (outs : List (Out A)) → KnowsIn next seen outs → AreSeen seen outs }
     ensures left { (reader_old reader_new writer_old writer_new : Option (List ℕ)) (counts : Totals) (inflow : Inflow) (kept : List ℕ) (is_long : Bool)
         (outs : List (Out A)) (session : ℕ) (share : Totals)
         → StandsIn next reader_old reader_new writer_old writer_new counts inflow kept is_long outs session share

@@ -2,7 +2,8 @@
 //! lock.
 //!
 //! Promises: once a dialogue has ended, each line of its connection has its answer at its place, a receipt shows the line's command, and
-//! what is written is the texts of the answers (`Dialogue::finish`). Each step keeps this, whoever takes it, with no premise on the caller.
+//! what is written is the texts of the answers (`Dialogue::finish`). What it saw of the vault shows that the entry of each receipt was
+//! acknowledged. Each step keeps this, whoever takes it, with no premise on the caller.
 //! It is over only once the session that its answers leave open has its last leave, or can't get one (`LastLeave`). What the next step is
 //! for is said, and how each step changes that (`Dialogue::awaits`). For `Dialogue::is_within_line` only safety is proved.
 //! Of the vault, its flusher and its shares vault_desk says what is promised, and all that a server needs of them is handed on here.
@@ -24,7 +25,7 @@ pub use dialogue::{Awaits, Dialogue, Step};
 pub use last_leave::LastLeave;
 pub use next::Finished;
 pub use vault_desk::{
-    Answers, Cause, Desk, Due, Ended, Flushed, Flusher, Gate, OpenGate, Out, Point, Share, Shared,
-    Tally, Totals, gather, laws, run_flusher,
+    Answers, Cause, Desk, Due, Ended, Flushed, Flusher, Gate, NewPast, OpenGate, Out, Point, Share,
+    Shared, Sight, Tally, Totals, flush, gather, laws, run_flusher,
 };
 pub use worker::Worker;

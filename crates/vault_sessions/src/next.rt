@@ -3,7 +3,7 @@ ghost use Rattle.std.specs.Prelude.{◌≡◌};
 
 use crate::last_leave::LastLeave;
 use std::alloc::{Allocator, Global};
-use vault_desk::{Answers, Ended, Share, Tally, Turn};
+use vault_desk::{Answers, Ended, Share, Sight, Tally, Turn};
 
 // What a dialogue does next.
 pub(crate) enum Next<A: Allocator> {
@@ -24,6 +24,8 @@ pub struct Finished<S: Tally, T: Tally, A: Allocator = Global> {
     pub answers: Answers<A>,
     /// The worker's share.
     pub share: Share<S, T>,
+    /// What it saw of the vault.
+    pub sight: Option<Sight<S>>,
     /// Why it ended.
     pub ended: Ended,
     /// How it left its session. None if it was given up before that.
@@ -38,6 +40,7 @@ impl<S: Tally, T: Tally, A: Allocator + Copy> Finished<S, T, A> {
         let Finished {
             answers,
             share,
+            sight: _,
             ended,
             left: _,
         } = self;

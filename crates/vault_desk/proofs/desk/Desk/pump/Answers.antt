@@ -5,13 +5,14 @@ use Rattle.vault_desk.specs.AtDesk.{AtDesk}
 use Rattle.vault_desk.specs.Pumping.{IsPumped}
 use Rattle.vault_desk.proofs.Desks.{pump_keeps}
 use Rattle.vault_desk.proofs.Acts.{answered}
+use Rattle.vault_desk.proofs.Seeing.{went_call}
 use Rattle.vault_desk.proofs.desk.Desk.pump.Goals as goal
 
 pub invariant_of-self : goal.invariant_of-self
 invariant_of-self g c =
     let e = c.pump.ensures in
     let k = pump_keeps c.self.inside.vault c.pump.new.self c.pump.result (record { broken = e.broken; answer = e.answer; pumped = e.pumped; failed = e.failed; life = e.life }) in
-    (c.self.invariant.0 ∙ sym k.0, c.self.invariant.1 ∙ sym k.1, c.self.invariant.2, c.self.invariant.3, answered g.S.Tally.beginning c.self.inside.vault c.pump.new.self c.self.invariant.4 c.pump.ensures.answered)
+    (c.self.invariant.0 ∙ sym k.0, c.self.invariant.1 ∙ sym k.1, c.self.invariant.2, c.self.invariant.3, answered g.S.Tally.beginning c.self.inside.vault c.pump.new.self c.self.invariant.4 c.pump.ensures.answered, went_call g.S.Tally.beginning c.self.inside.vault c.pump.new.self c.self.inside.sight c.self.invariant.5 c.pump.ensures.answered)
 
 pub returns-clause-pumped : goal.returns-clause-pumped
 returns-clause-pumped g c =

@@ -6,6 +6,7 @@ use Rattle.vault_desk.specs.AtDesk.{AtDesk}
 use Rattle.vault_desk.specs.declared.tally.Totals.{Totals}
 use Rattle.vault_desk.proofs.Desks.{told_counts, redeem_keeps, same_lengths, least_staged, least_told, counted_fits}
 use Rattle.vault_desk.proofs.Acts.{answered}
+use Rattle.vault_desk.proofs.Seeing.{went_call}
 use Rattle.vault_desk.proofs.desk.Desk.redeem.Goals as goal
 
 pub invariant_of-self : goal.invariant_of-self
@@ -19,6 +20,7 @@ invariant_of-self g c =
       ap (λ (t : Totals). t.staged) same ∙ i.2,
       ap (λ (t : Totals). t.told) same ∙ i.3,
       answered g.S.Tally.beginning c.self.inside.vault c.redeem.new.self i.4 c.in-Told.ensures.answered,
+      went_call g.S.Tally.beginning c.self.inside.vault c.redeem.new.self c.self.inside.sight i.5 c.in-Told.ensures.answered,
     )
 
 pub returns-in-Told-clause-least : goal.returns-in-Told-clause-least
@@ -53,7 +55,8 @@ invariant_of-self-in_default g c =
     let books = c.audit_beside.ensures.books in
     let same = c.audit_beside.ensures.same.1 in
     let on = answered g.S.Tally.beginning c.self.inside.vault c.redeem.new.self i.4 c.redeem.ensures.answered in
-    (books.0 ∙ i.0 ∙ sym k.0, books.1 ∙ i.1 ∙ sym k.1, ap (λ (t : Totals). t.staged) same ∙ i.2, ap (λ (t : Totals). t.told) same ∙ i.3, on)
+    let went = went_call g.S.Tally.beginning c.self.inside.vault c.redeem.new.self c.self.inside.sight i.5 c.redeem.ensures.answered in
+    (books.0 ∙ i.0 ∙ sym k.0, books.1 ∙ i.1 ∙ sym k.1, ap (λ (t : Totals). t.staged) same ∙ i.2, ap (λ (t : Totals). t.told) same ∙ i.3, on, went)
 
 pub returns-in-Told-clause-redeemed : goal.returns-in-Told-clause-redeemed
 returns-in-Told-clause-redeemed g c =

@@ -4,12 +4,13 @@ use Rattle.group_commit.specs.Calls.{IsRetired}
 use Rattle.group_commit.specs.Pasts.{IsAnswered}
 use Rattle.vault_desk.specs.AtDesk.{AtDesk}
 use Rattle.vault_desk.proofs.Acts.{answered}
+use Rattle.vault_desk.proofs.Seeing.{went_call}
 use Rattle.vault_desk.proofs.desk.Desk.retire.Goals as goal
 
 pub invariant_of-self : goal.invariant_of-self
 invariant_of-self g c =
     let k = c.retire.ensures.same in
-    (c.self.invariant.0 ∙ sym k.0, c.self.invariant.1 ∙ sym k.1, c.self.invariant.2, c.self.invariant.3, answered g.S.Tally.beginning c.self.inside.vault c.retire.new.self c.self.invariant.4 c.retire.ensures.answered)
+    (c.self.invariant.0 ∙ sym k.0, c.self.invariant.1 ∙ sym k.1, c.self.invariant.2, c.self.invariant.3, answered g.S.Tally.beginning c.self.inside.vault c.retire.new.self c.self.invariant.4 c.retire.ensures.answered, went_call g.S.Tally.beginning c.self.inside.vault c.retire.new.self c.self.inside.sight c.self.invariant.5 c.retire.ensures.answered)
 
 pub returns-clause-retired : goal.returns-clause-retired
 returns-clause-retired g c =

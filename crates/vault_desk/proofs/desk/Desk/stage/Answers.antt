@@ -10,6 +10,7 @@ use Rattle.vault_desk.specs.AtDesk.{AtDesk}
 use Rattle.vault_desk.specs.declared.tally.Totals.{Totals}
 use Rattle.vault_desk.proofs.Desks.{stage_counts, same_desk, same_lengths, least_staged, least_told, counted_fits}
 use Rattle.vault_desk.proofs.Acts.{answered}
+use Rattle.vault_desk.proofs.Seeing.{went_call}
 use Rattle.vault_desk.proofs.desk.Desk.stage.Goals as goal
 
 pub returns-in-Ok-clause-answered : goal.returns-in-Ok-clause-answered
@@ -26,6 +27,7 @@ invariant_of-self g c =
       ap (λ (t : Totals). t.staged) same ∙ i.2,
       ap (λ (t : Totals). t.told) same ∙ i.3,
       answered g.S.Tally.beginning c.self.inside.vault c.stage.new.self i.4 c.in-Ok.ensures.answered,
+      went_call g.S.Tally.beginning c.self.inside.vault c.stage.new.self c.self.inside.sight i.5 c.in-Ok.ensures.answered,
     )
 
 pub invariant_of-share : goal.invariant_of-share
@@ -48,7 +50,8 @@ invariant_of-self-in-Err g c =
     let books = c.audit_beside.ensures.books in
     let same = c.audit_beside.ensures.same.1 in
     let on = answered g.S.Tally.beginning c.self.inside.vault c.stage.new.self i.4 c.in-Err.ensures.answered in
-    (books.0 ∙ i.0 ∙ sym k.0, books.1 ∙ i.1 ∙ sym k.1, ap (λ (t : Totals). t.staged) same ∙ i.2, ap (λ (t : Totals). t.told) same ∙ i.3, on)
+    let went = went_call g.S.Tally.beginning c.self.inside.vault c.stage.new.self c.self.inside.sight i.5 c.in-Err.ensures.answered in
+    (books.0 ∙ i.0 ∙ sym k.0, books.1 ∙ i.1 ∙ sym k.1, ap (λ (t : Totals). t.staged) same ∙ i.2, ap (λ (t : Totals). t.told) same ∙ i.3, on, went)
 
 pub returns-in-Ok-clause-staged : goal.returns-in-Ok-clause-staged
 returns-in-Ok-clause-staged g c =

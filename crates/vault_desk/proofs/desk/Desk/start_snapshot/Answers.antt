@@ -8,12 +8,13 @@ use Rattle.group_commit.specs.Pasts.{IsAnswered}
 use Rattle.vault_desk.specs.AtDesk.{AtDesk}
 use Rattle.vault_desk.proofs.Desks.{start_keeps, same_desk, same_on_error}
 use Rattle.vault_desk.proofs.Acts.{answered}
+use Rattle.vault_desk.proofs.Seeing.{went_call}
 use Rattle.vault_desk.proofs.desk.Desk.start_snapshot.Goals as goal
 
 pub invariant_of-self : goal.invariant_of-self
 invariant_of-self g c =
     let k = start_keeps c.self.inside.vault c.start_snapshot.new.self c.start_snapshot.result c.start_snapshot.ensures.started c.start_snapshot.ensures.not_now c.start_snapshot.ensures.refused in
-    (c.self.invariant.0 ∙ sym k.0, c.self.invariant.1 ∙ sym k.1, c.self.invariant.2, c.self.invariant.3, answered g.S.Tally.beginning c.self.inside.vault c.start_snapshot.new.self c.self.invariant.4 c.start_snapshot.ensures.answered)
+    (c.self.invariant.0 ∙ sym k.0, c.self.invariant.1 ∙ sym k.1, c.self.invariant.2, c.self.invariant.3, answered g.S.Tally.beginning c.self.inside.vault c.start_snapshot.new.self c.self.invariant.4 c.start_snapshot.ensures.answered, went_call g.S.Tally.beginning c.self.inside.vault c.start_snapshot.new.self c.self.inside.sight c.self.invariant.5 c.start_snapshot.ensures.answered)
 
 pub returns-clause-started : goal.returns-clause-started
 returns-clause-started g c = λ begun.
