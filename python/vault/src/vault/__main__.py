@@ -2,6 +2,6 @@
 
 import sys
 
-from vault.program import main
+from vault.cli.program import main
 
 sys.exit(main())

@@ -1,0 +1,203 @@
+"""The client's own file: the check-outs, copies of the drafts that were sent, and the command under way."""
+
+import contextlib
+import json
+import time
+from dataclasses import asdict, dataclass, field
+from pathlib import Path
+from typing import Any, Callable, Dict, Iterator, List, Optional, Sequence, Tuple
+
+from filelock import FileLock
+
+from vault.errors import VaultError
+from vault.files.locks import taken
+from vault.files.whole import write_whole
+from vault.protocol.replies import Reply, claim_in
+from vault.protocol.standing import Holder
+
+KNOWN = 1024
+
+
+@dataclass
+class Draft:
+    """A copy of what was sent for a part, kept until it is a version."""
+
+    content: str
+    source: str
+    versions: Optional[int]
+
+
+@dataclass
+class Claim:
+    """A check-out that this client asked for, and to whom it was given since."""
+
+    items: List[str]
+    drafts: Dict[str, Draft] = field(default_factory=dict)
+    given: str = ""
+
+
+@dataclass
+class Known:
+    """A claim that this client has heard of: whose it was, what it had, and when the client first heard of it."""
+
+    owner: str
+    items: List[str]
+    since: float
+
+
+@dataclass
+class Command:
+    """A command that changes the vault, as it is kept while it is under way; with a check-in the drafts that the server had before, if it
+    tells them; with a draft the hash of the one that it is to replace, empty for none, if the server tells that."""
+
+    kind: str
+    line: str
+    claim: str = ""
+    place: str = ""
+    items: List[str] = field(default_factory=list)
+    last_number: int = 0
+    since: float = 0.0
+    second: str = ""
+    drafts: Optional[Dict[str, Draft]] = None
+    replaces: Optional[str] = None
+
+
+class Memory:
+    """The client's own file for one designer at one server; every change of it is on disk before the next step."""
+
+    def __init__(self, path: Path):
+        self.path = path
+        self.last_number = 0
+        self.claims: Dict[str, Claim] = {}
+        self.under_way: Optional[Command] = None
+        self.store = self.way = ""
+        self.server = ""
+        self.known: Dict[str, Known] = {}
+        self.folders: List[str] = []
+
+    @contextlib.contextmanager
+    def locked(self, waiting: Callable[[], None]) -> Iterator[None]:
+        """Keeps other clients of this designer on this machine away, and reads the file anew."""
+        self.path.parent.mkdir(mode=0o700, parents=True, exist_ok=True)
+        lock = FileLock(self.path.with_name(self.path.name + ".lock"))
+        if not taken(lock):
+            waiting()
+            lock.acquire()
+        try:
+            self._load()
+            yield
+        finally:
+            lock.release()
+
+    def _load(self) -> None:
+        try:
+            kept = json.loads(self.path.read_text("utf-8"))
+            self.last_number = kept["last_number"]
+            self.store, self.way, self.server = kept.get("store", ""), kept.get("way", ""), kept.get("server", "")
+            self.folders = list(kept.get("folders", []))
+            self.known = {name: Known(**known) for name, known in kept.get("known", {}).items()}
+            self.claims = {
+                name: Claim(claim["items"], drafts_of(claim["drafts"]), claim.get("given", "")) for name, claim in kept["claims"].items()}
+            self.under_way = Command(**kept["under_way"]) if kept["under_way"] else None
+            if self.under_way is not None and self.under_way.drafts is not None:
+                self.under_way.drafts = drafts_of(kept["under_way"]["drafts"])
+        except FileNotFoundError:
+            self.last_number, self.claims, self.under_way, self.known, self.folders = 0, {}, None, {}, []
+            self.store = self.way = self.server = ""
+        except (ValueError, KeyError, TypeError, AttributeError) as error:
+            raise VaultError(f"The file {self.path} can't be read. It keeps copies of drafts, so move it away"
+                             " rather than delete it, and run the command again.") from error
+
+    def save(self) -> None:
+        """Puts the file on disk, whole or not at all."""
+        kept = {
+            "last_number": self.last_number,
+            "store": self.store,
+            "way": self.way,
+            "server": self.server,
+            "folders": self.folders,
+            "claims": {name: asdict(claim) for name, claim in self.claims.items()},
+            "under_way": asdict(self.under_way) if self.under_way else None,
+            "known": {name: asdict(known) for name, known in self.known.items()},
+        }
+        write_whole(self.path, json.dumps(kept, indent=1).encode("utf-8"))
+
+    def begin(self, command: Command) -> None:
+        """Remembers a command before it is sent."""
+        command.last_number, command.since = self.last_number, time.time()
+        self.under_way = command
+        try:
+            self.save()
+        except OSError:
+            self.under_way = None
+            raise
+
+    def end(self) -> None:
+        """Forgets the command under way, since what became of it is known."""
+        self.under_way = None
+        self.save()
+
+    def saw(self, reply: Reply) -> None:
+        """Keeps the greatest number of a check-out that the server ever named."""
+        numbers = [int(claim[1:]) for claim in reply.claims() if claim[0] == "c"]
+        self.last_number = max([self.last_number] + numbers)
+
+    def knows(self, line: Sequence[Holder], all_claims: bool) -> bool:
+        """Remembers claims that the server listed, and only these if it listed all that stand; of others the latest. Whether this changed
+        what is remembered. If neither owner nor items of one are as before, it is another claim of that number, as after a restart of the server."""
+        found = {}
+        for holder in line:
+            before = self.known.get(holder.claim)
+            same = before is not None and (before.owner == holder.owner or before.items == list(holder.items))
+            found[holder.claim] = Known(holder.owner, list(holder.items), before.since if before is not None and same else time.time())
+        kept = found if all_claims else {**self.known, **found}
+        latest = dict(sorted(kept.items(), key=lambda entry: (entry[0] in found, entry[1].since))[-KNOWN:])
+        changed = latest != self.known
+        self.known = latest
+        return changed
+
+    def remember(self, command: Command, reply: Reply) -> None:
+        """Keeps what a command that was done means for the check-outs."""
+        if command.kind == "checkout":
+            self.claims[claim_in(reply)] = Claim(command.items)
+            self.known[claim_in(reply)] = Known("", command.items, time.time())
+        elif command.kind == "extend" and command.claim in self.claims:
+            self.claims[command.claim].items += command.items
+        elif command.kind in ("checkin", "abandon"):
+            self.claims.pop(command.claim, None)
+            self.known.pop(command.claim, None)
+        elif command.kind == "give" and command.claim in self.claims:
+            self._given(command.claim, command.line.split()[2])
+
+    def put_aside(self, name: str) -> Optional[Path]:
+        """Forgets a check-out, and answers the file in which the copies of its drafts are kept, if there are any."""
+        claim = self.claims.pop(name, None)
+        if claim is None or not claim.drafts:
+            return None
+        path = self.path.with_name(f"{self.path.name}.{name}.{time.time_ns()}")
+        write_whole(path, json.dumps(asdict(claim), indent=1).encode("utf-8"))
+        return path
+
+    def _given(self, claim: str, receiver: str) -> None:
+        """Forgets a check-out that was given away, but not while copies of its drafts are kept."""
+        if self.claims[claim].drafts:
+            self.claims[claim].given = receiver
+        else:
+            del self.claims[claim]
+
+
+def drafts_of(kept: Dict[str, Dict[str, Any]]) -> Dict[str, Draft]:
+    """Drafts as they are read from the client's file, by place."""
+    return {place: Draft(**draft) for place, draft in kept.items()}
+
+
+def by_number(entry: Tuple[str, Claim]) -> int:
+    """The order of check-outs."""
+    return int(entry[0][1:])
+
+
+def command_word(command: Command) -> str:
+    """A command as a designer says it, with no content."""
+    if command.kind == "put":
+        return f"put {command.place}"
+    return f"note {command.claim}" if command.kind == "note" else command.line

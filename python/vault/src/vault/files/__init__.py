@@ -1,0 +1,1 @@
+"""Files of this machine: written whole, copied through a hash, locked, named."""

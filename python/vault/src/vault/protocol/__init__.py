@@ -1,0 +1,1 @@
+"""What is said between the client and the server: words, replies, addresses, connections."""

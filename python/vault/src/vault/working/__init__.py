@@ -1,0 +1,8 @@
+"""Working folders: an assembly's parts as files. Nothing that was changed there is ever written over."""
+
+from vault.working.getting import Getting
+from vault.working.importing import Importing
+
+
+class Working(Getting, Importing):
+    """A working folder, and the designer's files that it belongs to. Call its methods within `Folder.locked`."""
