@@ -11,8 +11,10 @@ import time
 from pathlib import Path
 
 from vaultd_tools.files import Report, ToolError, copy_vault, find_vaultd, inspect, say_error
-from vaultd_tools.page_model import now
-from vaultd_tools.page_render import Line, Renderer
+from vaultd_tools.page.model import now
+from vaultd_tools.page.render import Renderer
+from vaultd_tools.page.rows import Rows
+from vaultd_tools.page.waits import Line
 
 
 def in_words(counts: str) -> str:
@@ -26,12 +28,14 @@ def page(report: Report, title: str) -> str:
     line = Line.of(claims)
     held = line.held
     waiting = len(claims) - held
-    designers = line.by_designer()
-    texts = {"tally": renderer.piece("tally", held, waiting, len(designers), line.longest),
+    rows = Rows(line, {})
+    texts = {"tally": renderer.piece("tally", waiting, len(line.blockers()), held, len({claim.owner for claim in claims})),
              "line-words": renderer.piece("line_words", held, waiting, line.longest),
-             "designers": renderer.piece("designers", designers)}
+             "waits-words": renderer.piece("waits_words", len(line.blockers()), waiting, held),
+             "rings": renderer.piece("rings", rows.rings()),
+             "designers": renderer.piece("designers", rows.designers())}
     return renderer.page("board.html", title=title, vault=title, time=now(), counts=in_words(report.counts or ""), texts=texts,
-                         lists={"line": renderer.claims(line.rows(claims, {}))})
+                         lists={"line": renderer.claims(rows.claims(claims)), "blockers": renderer.blockers(rows.blockers())})
 
 
 def report_of(vaultd: str, first: str, second: str, tries: int) -> Report:

@@ -1,0 +1,109 @@
+"""Since when check-outs are known: kept in a file over restarts of the page, and told by the log of the ssh gate where it has them."""
+
+from __future__ import annotations
+
+import json
+import logging
+import os
+from collections.abc import Iterable, Iterator, Mapping
+from dataclasses import dataclass
+from datetime import datetime, timezone
+from pathlib import Path
+
+from vault.files.whole import write_whole
+from vault.store.card import TIME
+from vaultd_tools.files import Claim
+from vaultd_tools.gate.history import outcomes, records
+from vaultd_tools.page.model import Since
+
+FILE = "since.json"
+MOST_BYTES = 1 << 20
+MOST_OF_A_LOG = 64 << 20
+LOG_TIME = "%Y-%m-%dT%H:%M:%S.%fZ"
+
+
+@dataclass(frozen=True)
+class Known:
+    """What was known of a check-out: whose it was, what it had, and since when."""
+
+    owner: str
+    items: tuple[str, ...]
+    since: Since
+
+    def is_of(self, claim: Claim) -> bool:
+        """Whether a check-out is this one: still its designer's, with at least what it had. A vault from a backup gives numbers again."""
+        return self.owner == claim.owner and self.items == claim.items[:len(self.items)]
+
+
+class Times:
+    """The times of check-outs, by number."""
+
+    def __init__(self, folder: Path | None = None, gate_log: Path | None = None):
+        self.file, self.gate_log = folder / FILE if folder else None, gate_log
+        self.known: dict[str, Known] = {}
+        self.logged: dict[str, Known] = {}
+        self.written: bytes = b""
+        self._read_to = (0, 0)
+        self._read()
+
+    def recalled(self, claim: Claim) -> Since | None:
+        """Since when a check-out is known that the page hasn't seen yet."""
+        found = [known[claim.name].since for known in (self.logged, self.known) if claim.name in known and known[claim.name].is_of(claim)]
+        return found[0] if found else None
+
+    def keep(self, claims: Iterable[Claim], since: Mapping[str, Since]) -> None:
+        """Keeps the times of these check-outs, and of no others."""
+        self.known = {claim.name: Known(claim.owner, claim.items, since[claim.name]) for claim in claims
+                      if claim.name[0] == "c" and claim.name in since}
+
+    def write(self) -> None:
+        """Writes the file, if it isn't so already. If it can't be, the page goes on without it."""
+        content = json.dumps({name: {"owner": one.owner, "items": one.items, "since": one.since.when.strftime(TIME), "exact": one.since.exact}
+                              for name, one in self.known.items()}, indent=0).encode("ascii")
+        if self.file is None or content == self.written:
+            return
+        try:
+            write_whole(self.file, content)
+            self.written = content
+        except OSError as error:
+            logging.warning("%s can't be written (%s): after a restart the page won't know since when what is held", self.file, error.strerror)
+            self.file = None
+
+    def read_log(self) -> None:
+        """Reads on in the gate's log."""
+        if self.gate_log is None:
+            return
+        try:
+            for record in outcomes(records(self._new_lines(self.gate_log), [])):
+                said = record.reply.split()
+                if record.done and record.words[0] == "checkout" and len(said) > 2:
+                    when = datetime.strptime(record.time, LOG_TIME).replace(tzinfo=timezone.utc, microsecond=0)
+                    self.logged[said[2]] = Known(record.name, tuple(record.words[1:]), Since(when, True))
+        except OSError as error:
+            logging.warning("the gate's log %s can't be read (%s), so times are when the page first saw a claim", self.gate_log, error.strerror)
+            self.gate_log = None
+
+    def _new_lines(self, path: Path) -> Iterator[str]:
+        with open(path, "rb") as log:
+            state = os.fstat(log.fileno())
+            inode, end = self._read_to
+            begin = end if inode == state.st_ino and end <= state.st_size else 0
+            log.seek(max(begin, state.st_size - MOST_OF_A_LOG))
+            for line in log:
+                if line.endswith(b"\n"):
+                    self._read_to = (state.st_ino, log.tell())
+                    yield line.decode("ascii", "replace")
+
+    def _read(self) -> None:
+        """Takes in the file. One that isn't of this form is no file of the page's, and counts for nothing."""
+        if self.file is None:
+            return
+        try:
+            if self.file.stat().st_size <= MOST_BYTES:
+                self.known = {name: Known(one["owner"], tuple(one["items"]),
+                                          Since(datetime.strptime(one["since"], TIME).replace(tzinfo=timezone.utc), bool(one["exact"])))
+                              for name, one in json.loads(self.file.read_bytes()).items()}
+        except FileNotFoundError:
+            return
+        except (OSError, ValueError, TypeError, KeyError, AttributeError) as error:
+            logging.warning("%s isn't the page's file of times, or can't be read (%s), so it counts for nothing", self.file, error)

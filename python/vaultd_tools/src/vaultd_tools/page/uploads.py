@@ -1,0 +1,174 @@
+"""Files that designers put by the page: bytes go from the browser into the store as they come, hashed on the way, and are then drafts."""
+
+from __future__ import annotations
+
+import asyncio
+import os
+import queue
+import tempfile
+from collections.abc import Callable
+from dataclasses import dataclass, field
+from pathlib import Path
+
+from vault.errors import MisusedError, RefusedError, VaultError
+from vault.files.names import part_name, usable
+from vault.files.transfer import no_meter
+from vault.protocol.grammar import CONTENT_BYTES, under
+from vault.store.base import Kept, Store, StoreFaultError
+from vault.store.card import Card, name_word, now, read_card
+from vault.store.folder_store import FolderStore
+from vault.store.setting import STORE_PLACE
+from vaultd_tools.page.acting import Designer
+
+PIECES = 16
+WAIT_SECONDS = 60.0
+FULL_SECONDS = 0.004
+LEAVES_FREE = 64 << 20
+TRIES = 3
+
+
+class Broken(VaultError):
+    """An upload that didn't come to its end."""
+
+
+class Coming:
+    """Bytes that come from a browser, as a file that a thread reads. Few are kept meanwhile."""
+
+    def __init__(self, most: int) -> None:
+        self.pieces: queue.Queue[bytes | None] = queue.Queue(PIECES)
+        self.size, self.most, self.over = 0, most, False
+        self._rest = memoryview(b"")
+
+    async def feed(self, piece: bytes | None) -> None:
+        """Hands a piece on, an empty one at the end, or nothing where the upload was broken off."""
+        self.size += len(piece or b"")
+        if self.size > self.most:
+            piece = None
+        while not self.over:
+            try:
+                self.pieces.put_nowait(piece)
+                break
+            except queue.Full:
+                await asyncio.sleep(FULL_SECONDS)
+        if self.size > self.most:
+            raise MisusedError(f"The file has more than {self.most:,} bytes, and the page takes no more (--most-bytes). Nothing was put.")
+
+    def readinto(self, piece: memoryview) -> int:
+        """Reads some bytes, and none at the end."""
+        if not self._rest:
+            try:
+                came = self.pieces.get(timeout=WAIT_SECONDS)
+            except queue.Empty:
+                came = None
+            if came is None:
+                raise Broken("The upload was broken off, and nothing was put.")
+            self._rest = memoryview(came)
+        length = min(len(piece), len(self._rest))
+        piece[:length] = self._rest[:length]
+        self._rest = self._rest[length:]
+        return length
+
+
+@dataclass
+class Target:
+    """Where an upload goes: a check-out of a designer, and a part, or an assembly in which each file has a part."""
+
+    claim: str
+    place: str
+    part: bool
+    store: Store | None
+    parts: dict[str, str] = field(default_factory=dict)
+
+
+def target_of(client: Designer, store: Callable[[], Store | None], claim: str, place: str) -> Target:
+    """Looks whether something may be put there at all, so that nobody sends long files in vain."""
+    if under(STORE_PLACE, place):
+        raise MisusedError("There the vault names its store. Put the file elsewhere.")
+    if not client.is_assembly(place):
+        return Target(client.claim_for(place, claim), place, True, store())
+    held = client.held(place).get(claim, ())
+    if not any(item[0] == "w" and under(place, item[2:]) for item in held):
+        raise RefusedError(f"{claim or 'No check-out'} of yours takes in {place} for change. Check it out first.")
+    named: dict[str, str] = {}
+    parts = [f"{place}/{name}" for name in client.names(place)]
+    _, counts = client.survey(place)
+    for part in (part for part in parts if counts.get(part)):
+        card = read_card(client.get(part))
+        if card is not None:
+            named[card.name] = part
+    return Target(claim, place, False, store(), named)
+
+
+def check_room(store: Store | None, size: int) -> None:
+    """Refuses what a store in a folder has no room for."""
+    if isinstance(store, FolderStore):
+        disk = os.statvfs(store.folder)
+        if disk.f_bavail * disk.f_frsize < size + LEAVES_FREE:
+            raise StoreFaultError("The store has no room for that. Ask whoever runs it; nothing was put.")
+
+
+def received(client: Designer, target: Target, coming: Coming, name: str, spool: Path) -> str:
+    """Takes one file in, and saves its card as a draft. Answers the part."""
+    try:
+        content = content_of(client, target.store, coming, name, spool)
+        place = target.place if target.part else part_for(client, target, name)
+        client.put(place, content[1], target.claim, keep=False)
+        if content[0] is not None and target.store is not None and target.store.find(content[0].sha256) is None:
+            raise StoreFaultError(f"The bytes of {name} were taken away from the store meanwhile. Put the file again, before you check in.")
+        return place
+    finally:
+        coming.over = True
+
+
+def content_of(client: Designer, store: Store | None, coming: Coming, name: str, spool: Path) -> tuple[Kept | None, bytes]:
+    """What the vault keeps of a file that comes: its card, once its bytes are in the store; without a store the bytes of a small one."""
+    if store is None:
+        return None, small(coming, name)
+    kept = store.take_in(coming, lambda _bytes: None) if isinstance(store, FolderStore) else by_a_copy(store, coming, spool)
+    return kept, Card(kept.sha256, kept.size, name_word(name), client.designer, now()).spell()
+
+
+def small(coming: Coming, name: str) -> bytes:
+    """The bytes of a file that the vault itself keeps."""
+    content, room = bytearray(), memoryview(bytearray(CONTENT_BYTES + 1))
+    while (length := coming.readinto(room)) and len(content) <= CONTENT_BYTES:
+        content += room[:length]
+    if len(content) > CONTENT_BYTES or read_card(bytes(content)) is not None:
+        raise MisusedError(f"{name} can't be put: the vault names no store, and keeps at most {CONTENT_BYTES:,} bytes of a part itself.")
+    return bytes(content)
+
+
+def by_a_copy(store: Store, coming: Coming, spool: Path) -> Kept:
+    """Takes bytes into a store that only takes files, by way of one that is gone afterwards."""
+    spool.mkdir(mode=0o700, parents=True, exist_ok=True)
+    room = memoryview(bytearray(1 << 20))
+    with tempfile.NamedTemporaryFile(dir=spool, prefix="upload-") as file:
+        while length := coming.readinto(room):
+            file.write(room[:length])
+        file.flush()
+        return store.add(Path(file.name), no_meter)
+
+
+def part_for(client: Designer, target: Target, name: str) -> str:
+    """The part of a file in an assembly: the one whose last version has its name, or a new one."""
+    if name in target.parts:
+        return target.parts[name]
+    for _ in range(TRIES):
+        place = f"{target.place}/{part_name(name, client.names(target.place))}"
+        try:
+            client.make(place, target.claim)
+            target.parts[name] = place
+            return place
+        except RefusedError as refused:
+            if refused.code != 21:
+                raise
+    raise RefusedError(f"Others make parts of that name in {target.place} at this moment. Try again.")
+
+
+def file_name(sent: str) -> str:
+    """The name of a file that a browser sent, without the folders before it. Refused unless every system can have it."""
+    name = sent.replace("\\", "/").rpartition("/")[2]
+    if not usable(name):
+        raise MisusedError(f"A file can't be called {name!a} everywhere, so it wasn't put: rename it. It has none of" ' / \\ < > : " | ? * and no dot'
+                           " or blank at its ends.")
+    return name_word(name)

@@ -1,0 +1,1 @@
+"""Looks at a running server from outside: whether it serves, and how full it is."""
