@@ -1,10 +1,10 @@
 """What a server acknowledged to each of its designers, and whether it is found again after a kill."""
-import os
 import sys
 from dataclasses import dataclass
+from pathlib import Path
 from typing import Dict, Generator, List, Optional, Sequence, Tuple
 
-sys.path.insert(0, os.path.join(os.path.dirname(os.path.abspath(__file__)), os.pardir, "python", "vaultd_tools", "src"))
+sys.path[:0] = [str(path) for path in sorted(Path(__file__).resolve().parent.parent.glob("python/*/src"))]
 
 from vaultd_tools.files import Claim, Report  # noqa: E402
 

@@ -19,7 +19,8 @@ from typing import List, Tuple
 from measure import arguments, head, prepared, sized, table
 
 TOP = Path(__file__).resolve().parent.parent
-START = f"import sys; sys.path.insert(0, {str(TOP / 'python' / 'vaultd_tools' / 'src')!r}); from vaultd_tools.gate import main; sys.exit(main())"
+SOURCES = [str(TOP / "python" / name / "src") for name in ("vault", "vaultd_tools")]
+START = f"import sys; sys.path[:0] = {SOURCES!r}; from vaultd_tools.gate.program import main; sys.exit(main())"
 LINES = {"a question, `list /`": b"list /\n", "a change that is refused, `make /a`": b"make /a\n"}
 
 
