@@ -12,9 +12,9 @@ from typing import Dict, List, Tuple
 
 sys.path[:0] = [str(Path(__file__).resolve().parent.parent / "python" / "vault" / "src")]
 
-from vault.card import Card, now  # noqa: E402
-from vault.connection import Connection  # noqa: E402
-from vault.words import Reply  # noqa: E402
+from vault.store.card import Card, now  # noqa: E402
+from vault.protocol.connection import Connection  # noqa: E402
+from vault.protocol.replies import Reply  # noqa: E402
 
 DESIGNERS = ("anna", "ben", "cara", "deniz", "eva", "finn", "greta", "hugo", "ines", "jonas",
              "kaya", "lena", "mateo", "nora", "oskar", "paula")

@@ -9,7 +9,7 @@ import subprocess
 import tempfile
 import time
 from pathlib import Path
-from typing import Dict, List, Optional
+from typing import Dict, List, Optional, Sequence
 
 from servers import free_port, lay_programs
 
@@ -55,10 +55,10 @@ def make_key(path: Path) -> str:
 class Door:
     """A running sshd, whose keys are those of its designers."""
 
-    def __init__(self, server_port: int):
+    def __init__(self, server_port: int, settings: Sequence[str] = ()):
         self.scratch = tempfile.TemporaryDirectory(prefix="vault-test-door-")
         self.folder = Path(self.scratch.name)
-        self.server_port, self.port = server_port, free_port()
+        self.server_port, self.port, self.settings = server_port, free_port(), settings
         self.user = pwd.getpwuid(os.getuid()).pw_name
         self.log = self.folder / "log"
         self.places = self.folder / "places"
@@ -107,7 +107,8 @@ class Door:
         if os.getuid() == 0:
             SSHD_RUNTIME.mkdir(mode=0o755, exist_ok=True)
         settings = self.folder / "sshd_config"
-        settings.write_text(SETTINGS.format(port=self.port, folder=self.folder), "ascii")
+        lines = [SETTINGS.format(port=self.port, folder=self.folder), *self.settings]
+        settings.write_text("\n".join(lines) + "\n", "ascii")
         with (self.folder / "sshd.log").open("wb") as log:
             self.process = subprocess.Popen([SSHD, "-D", "-e", "-f", str(settings)], stdin=subprocess.DEVNULL, stdout=log, stderr=log,
                                             preexec_fn=lambda: signal.signal(signal.SIGTERM, signal.SIG_DFL))

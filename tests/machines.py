@@ -12,10 +12,11 @@ MIRROR = "http://deb.debian.org/debian"
 RELEASE = "bookworm"
 CACHE = Path(os.environ.get("VAULT_CACHE", "/var/cache/vaultd-tests"))
 # Which machine is kept: one more whenever PACKAGES, UNIT or what `base` does is changed.
-MADE = 4
+MADE = 6
 # What the packages need and what the page on operating names, and the programs that the script uses.
-PACKAGES = ("systemd", "systemd-sysv", "dbus", "python3", "python3-filelock", "python3-aiohttp", "python3-jinja2", "openssh-server", "nftables",
-            "iproute2", "netcat-openbsd", "psmisc", "prometheus-node-exporter", "curl", "ca-certificates")
+PACKAGES = ("systemd", "systemd-sysv", "dbus", "python3", "python3-filelock", "python3-pathspec", "python3-aiohttp", "python3-jinja2",
+            "python3-zipstream-ng",
+            "openssh-server", "nftables", "iproute2", "netcat-openbsd", "psmisc", "prometheus-node-exporter", "curl", "ca-certificates")
 SCRIPT_UNIT = "script-of-a-test.service"
 UNIT = """\
 [Unit]

@@ -13,8 +13,8 @@ from typing import Any, Callable, Dict, Sequence
 
 from servers import PACKAGES
 
-from vault.connection import Connection
-from vault.program import main
+from vault.protocol.connection import Connection
+from vault.cli.program import main
 
 KILLED = 137
 EVENTS = {"open", "os.chmod", "os.link", "os.mkdir", "os.remove", "os.rename", "os.utime", "socket.connect", "subprocess.Popen"}

@@ -7,9 +7,9 @@ from typing import List, Optional
 from designers import PART, WithServer
 
 from vault import Client
-from vault.card import Card, read_card
-from vault.parts import Parts
-from vault.store import MARK, MARK_NAME, place_of
+from vault.store.card import Card, read_card
+from vault.store.parts import Parts
+from vault.store.base import MARK, MARK_NAME, place_of
 
 ROD = "/engine/block/rod"
 NAME = "Kolben 80.SLDPRT"
@@ -69,8 +69,8 @@ class WithStore(WithServer):
         self.cutter.after.append(saves)
         self.cutter.meanwhile = self.path_of(card).unlink
         self.parts.put(PART, self.file, claim)
-        # The one that has no reply, the same once more, and the one behind the bytes.
-        self.assertEqual((self.entries(), self.sent(saves)), ([card.sha256], 3))
+        # The one that has no reply, which turns out to be done, and the one behind the bytes.
+        self.assertEqual((self.entries(), self.sent(saves)), ([card.sha256], 2))
 
     def path_of(self, card: Card) -> Path:
         """Where a card's bytes lie."""

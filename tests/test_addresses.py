@@ -9,20 +9,22 @@ import subprocess
 import tempfile
 import threading
 import unittest
+from designers import PART
 from pathlib import Path
+from servers import MEMORY, Cutter, Limits, Server, free_port, program
+from test_odd_server import Odd
 from typing import Callable, Dict, List, Tuple
 from unittest import mock
 
-from designers import PART
-from servers import MEMORY, Cutter, Limits, Server, free_port, program
-from test_odd_server import Odd
-
-from vault import Client, Misused, NotKnown, Unreachable, claim_commands
-from vault.client import memory_name
-from vault.command_line import command_line
-from vault.output import Output
-from vault.parts import Parts
-from vault.working import Working, folder_for
+from vault import Client, MisusedError, NotKnownError, UnreachableError
+from vault.cli import claim_commands
+from vault.cli.command_line import command_line
+from vault.cli.output import Output
+from vault.cli.words import WaitWords
+from vault.client.session import memory_name
+from vault.store.parts import Parts
+from vault.working import Working
+from vault.working.opening import folder_for
 
 ROD = "/engine/block/rod"
 
@@ -118,7 +120,7 @@ class Lost(TwoServers):
             self.cut(b"checkin", behind)
             for cutter in self.cutters:
                 cutter.meanwhile = serves.kill
-            with self.assertRaises(NotKnown):
+            with self.assertRaises(NotKnownError):
                 self.client("anna", patience=0.2).checkin(claim)
             (self.two if serves is self.one else self.one).start()
             for cutter in self.cutters:
@@ -146,7 +148,7 @@ class Lost(TwoServers):
 
         taking = threading.Timer(1.5, meanwhile)
         taking.start()
-        said = claim_commands.wait(ben, command_line().parse_args(["wait", claim, "--at-most", "60"]), output)[0]
+        said = claim_commands.wait(ben, WaitWords.of(command_line().parse_args(["wait", claim, "--at-most", "60"])), output)[0]
         taking.join()
         self.assertEqual(said, f"{claim} is held.")
 
@@ -241,7 +243,7 @@ class PassedOver(TwoServers):
         self.assertEqual(len(list(anna.tree())), 4)
         assert still.process is not None
         still.process.send_signal(signal.SIGSTOP)
-        with mock.patch("vault.connection.REPLY_SECONDS", 0.5), mock.patch("vault.connection.GREETING_SECONDS", 0.5):
+        with mock.patch("vault.protocol.connection.REPLY_SECONDS", 0.5), mock.patch("vault.protocol.connection.GREETING_SECONDS", 0.5):
             anna.link.drop()
             anna.make("/wing")
         self.assertEqual((anna.link.server[1], self.notices), (self.two.port, []))
@@ -253,7 +255,7 @@ class PassedOver(TwoServers):
         said: List[str] = []
         anna = self.client("anna", patience=1.5, ports=ports)
         anna.link.progress = said.append
-        with self.assertRaises(Unreachable) as away:
+        with self.assertRaises(UnreachableError) as away:
             anna.make("/wing")
         for port in ports:
             self.assertIn(f"No server answers at 127.0.0.1:{port} (Connection refused).", str(away.exception))
@@ -322,7 +324,7 @@ class Words(TwoServers):
         with folder.locked():
             Working(parts[0], folder).get()
         self.assertEqual(Working(parts[1], folder_for(parts[1], "/engine/block", work)).states(), [])
-        with self.assertRaises(Misused):
+        with self.assertRaises(MisusedError):
             Working(parts[2], folder_for(parts[2], "/engine/block", work))
 
 

@@ -4,9 +4,10 @@ import random
 import unittest
 
 import servers  # noqa: F401
-from vault.address import FolderAddress, RcloneAddress, read_store_address
-from vault.card import Card, name_word, note_word, now, read_card, shown
-from vault.words import Misused
+from vault.store.address import FolderAddress, RcloneAddress, read_store_address
+from vault.files.text import shown
+from vault.store.card import Card, name_word, note_word, now, read_card
+from vault.errors import MisusedError
 
 CARD = Card("ab" * 32, 3145728, "Kolben 80.SLDPRT", "anna", "2026-11-27T18:03:11Z", "larger bore")
 TEXT = (b"vault card 1\nsha256 " + b"ab" * 32 + b"\nsize 3145728\nname Kolben 80.SLDPRT\nby anna\nat 2026-11-27T18:03:11Z\n"
@@ -56,10 +57,10 @@ class Cards(unittest.TestCase):
     def test_words(self) -> None:
         self.assertEqual((name_word("\u00fc" * 127), note_word("x" * 400)), ("\u00fc" * 127, "x" * 400))
         for word in ("", "\u00fc" * 128, "a\nb", "\udcff", "a\x00"):
-            with self.assertRaises(Misused):
+            with self.assertRaises(MisusedError):
                 name_word(word)
         for word in ("", "x" * 401, "a\nb", "a\rb"):
-            with self.assertRaises(Misused):
+            with self.assertRaises(MisusedError):
                 note_word(word)
 
     def test_shown(self) -> None:
@@ -85,7 +86,7 @@ class Addresses(unittest.TestCase):
                      "rclone:office:/", "rclone::local:/etc", "rclone:-v:x", "rclone:a,config_dir=x:y", "rclone:a b:x", "rclone:\u00e4:x",
                      "rclone:sftp,ssh=touch /tmp/x:y", "rclone:office:a/../b", "rclone:office:..", "rclone:office:a\\..\\b",
                      "file:///" + "x" * 1024, "file:///\u202ex"):
-            with self.assertRaises(Misused, msg=text):
+            with self.assertRaises(MisusedError, msg=text):
                 read_store_address(text)
 
 

@@ -7,21 +7,22 @@ import subprocess
 import threading
 import time
 import unittest
+from designers import PART, WithServer
 from pathlib import Path
+from servers import Cutter, Limits, free_port, program
+from test_who import Between, Older
 from typing import Any, Callable, Iterator, List, Tuple
 from unittest import mock
 
-from designers import PART, WithServer
-from servers import Cutter, Limits, free_port, program
-from test_who import Between, Older
-
-from vault import Client, Misused, NotKnown, Refused, Unreachable, claim_commands
-from vault.command_line import command_line
-from vault.claim_commands import KEPT_OPEN_SECONDS
-from vault.commands import COMMANDS
-from vault.connection import Patience
-from vault.memory import Command
-from vault.output import Output
+from vault import Client, MisusedError, NotKnownError, RefusedError, UnreachableError
+from vault.cli import claim_commands
+from vault.cli.claim_commands import KEPT_OPEN_SECONDS
+from vault.cli.command_line import command_line
+from vault.cli.commands import COMMANDS
+from vault.cli.output import Output
+from vault.cli.words import WaitWords
+from vault.client.memory import Command
+from vault.protocol.connection import Patience
 
 
 # Starts a program whose standard output refuses what its encoding can't say.
@@ -123,7 +124,7 @@ class Lost(WithServer):
         claim = self.anna.checkout(["r:/engine"] * 7).claim
         self.cutter.after.append(b"extend")
         self.assertTrue(self.anna.extend(claim, ["w:" + PART]).held)
-        with self.assertRaises(Refused) as refused:
+        with self.assertRaises(RefusedError) as refused:
             self.anna.extend(claim, ["w:/engine"])
         self.assertEqual(refused.exception.code, 36)
 
@@ -150,7 +151,7 @@ class Lost(WithServer):
         """It is refused and never sent, so it can't be taken for done once that check-out is gone."""
         other = self.client("ben").checkout(["w:/engine/block"]).claim
         for ended in (self.anna.checkin, self.anna.abandon):
-            with self.assertRaises(Refused) as refused:
+            with self.assertRaises(RefusedError) as refused:
                 ended(other)
             self.assertEqual(refused.exception.code, 31)
         self.assertEqual(self.sent(b"checkin") + self.sent(b"abandon"), 0)
@@ -164,7 +165,7 @@ class Lost(WithServer):
         self.cutter.meanwhile = lambda: elsewhere.abandon(claim)
         self.cutter.before.append(b"checkin")
         for _ in range(2):
-            with self.assertRaises(Refused) as refused:
+            with self.assertRaises(RefusedError) as refused:
                 self.anna.checkin(claim)
             self.assertIn("vault drafts c1", str(refused.exception))
             self.assertEqual(self.anna.kept_drafts(claim), {PART: b"dear"})
@@ -233,7 +234,7 @@ class LostAtAnOlderServer(WithServer):
         self.cutter.after.append(b"checkout")
         self.cutter.before.append(b"save c97 ")
         self.cutter.meanwhile = lambda: self.server.kill() if not self.cutter.before else None
-        with self.assertRaises(NotKnown):
+        with self.assertRaises(NotKnownError):
             self.client("anna", patience=0.5).checkout(["w:/engine"])
         self.server.start()
         self.assertEqual([standing.claim for standing, _ in self.client("anna").mine()], ["c101"])
@@ -256,7 +257,7 @@ class NoServer(WithServer):
             original()
 
         setattr(short, "_start_afresh", away)
-        with self.assertRaises(NotKnown):
+        with self.assertRaises(NotKnownError):
             if words[0] == "save":
                 short.put(words[1], b"second")
             else:
@@ -347,21 +348,22 @@ class NoServer(WithServer):
         self.server.kill()
         self.server.start(Limits(file_bytes=400))
         short = self.client("anna", patience=0.2)
-        with self.assertRaises(NotKnown) as unknown:
+        with self.assertRaises(NotKnownError) as unknown:
             short.put(PART, b"x" * 1000)
         self.assertIn("disk failed", str(unknown.exception))
-        with self.assertRaises(NotKnown):
+        with self.assertRaises(NotKnownError):
             short.mine()
         self.server.kill()
         self.server.start()
         self.assertEqual(list(self.client("anna").mine()[0][1].drafts), [PART])
-        self.assertEqual(self.notices, [f"Your earlier `put {PART}` was done."])
+        self.client("anna").make("/engine/block/rod")
+        self.assertEqual(self.notices[1:], [f"Your earlier `put {PART}` was done."])
         self.anna.checkin("c1")
         self.assertEqual(self.anna.get(PART), b"x" * 1000)
 
     def test_nothing_sent(self) -> None:
         self.server.kill()
-        with self.assertRaises(Unreachable):
+        with self.assertRaises(UnreachableError):
             self.client("anna", patience=0.1).checkout(["r:/"])
         self.server.start()
         self.anna.mine()
@@ -400,18 +402,18 @@ class Words(WithServer):
             lambda: self.anna.put(PART, b"x"), lambda: self.anna.put(PART, b"x" * 1025), lambda: self.anna.get(PART, 0),
             lambda: self.anna.abandon("c4294967296"), lambda: self.anna.checkout(["r:/"] * 9)]
         for wrong in misused:
-            with self.assertRaises(Misused):
+            with self.assertRaises(MisusedError):
                 wrong()
 
     def test_refusals_have_sentences(self) -> None:
-        with self.assertRaises(Refused) as refused:
+        with self.assertRaises(RefusedError) as refused:
             self.anna.make("/engine")
         self.assertEqual((refused.exception.code, str(refused.exception)[:11]), (21, "That place "))
         self.anna.checkout(["w:/engine"])
-        with self.assertRaises(Refused) as refused:
+        with self.assertRaises(RefusedError) as refused:
             self.client("ben").make("/engine/gear")
         self.assertIn("The place above it is in c1, which anna holds: w:/engine.", str(refused.exception))
-        with self.assertRaises(Refused):
+        with self.assertRaises(RefusedError):
             self.anna.put("/engine/block/none", b"x")
         self.assertEqual(self.anna.kept_drafts("c1"), {})
 
@@ -478,13 +480,13 @@ class Program(WithServer):
         self.anna.checkout(["w:/engine"])
         ben, output = self.client("ben", patience=0.1), Output("wait", True)
         claim = ben.checkout(["r:/engine"]).claim
-        words = command_line().parse_args(["wait", claim])
+        words = WaitWords.of(command_line().parse_args(["wait", claim]))
         moments: Iterator[Callable[[], None]] = iter([self.server.kill, lambda: None, self.server.start, lambda: self.anna.abandon("c1")])
 
         def pause(client: Client, _patience: object) -> None:
             next(moments)()
 
-        with mock.patch("vault.claim_commands.pause", pause), mock.patch.object(ben, "turn", lambda *_: None):
+        with mock.patch("vault.cli.claim_commands.pause", pause), mock.patch.object(ben, "turn", lambda *_: None):
             self.assertEqual(claim_commands.wait(ben, words, output)[0], f"{claim} is held.")
         self.assertEqual(len(output.notices), 2, output.notices)
         self.assertIn("goes on", output.notices[1])
@@ -504,7 +506,10 @@ class Program(WithServer):
                 ["put", PART, str(drawing)], ["drafts", "c1"], ["drafts", "c1", str(state / "kept")], ["draft", "c1", PART], ["who"],
                 *notes, ["checkin", "c1"], ["get", PART], ["history", PART], ["checkout", "r:/"],
                 ["abandon", "c2"], ["forget", "c2"], ["mine"], ["hold", "r:/"], ["store"],
-                ["get", "/engine", "--to", str(work)], ["status", str(work)], ["add", str(work / "block" / "Bolzen 20")]]
+                ["get", "/engine", "--to", str(work)], ["status", str(work)], ["before", str(work)], ["add", str(work / "block" / "Bolzen 20")],
+                ["vaults"], ["import", str(drawing.parent / "cad"), "/wing", "--yes"]]
+        (drawing.parent / "cad" / "flap").mkdir(parents=True)
+        (drawing.parent / "cad" / "flap" / "Rib").write_bytes(b"rib")
         for words in said:
             if words[0] == "add":
                 Path(words[1]).write_bytes(b"pin")

@@ -20,8 +20,8 @@ from tries import told
 sys.path.insert(0, str(TOP / "bench"))
 
 from measure import ALLOCATOR  # noqa: E402
-from vault.program import main  # noqa: E402
-from vaultd_tools.page import words as words_of_the_page  # noqa: E402
+from vault.cli.program import main  # noqa: E402
+from vaultd_tools.page.program import words as words_of_the_page  # noqa: E402
 
 CONTRIB = TOP / "contrib"
 
@@ -177,11 +177,27 @@ class Contrib(unittest.TestCase):
         self.assertEqual((asked.host, asked.designer, asked.title), (["vault.example.org"], "page", "Plant-1"))
         self.assertIn("u vaultd-page ", (self.root / "usr" / "lib" / "sysusers.d" / "vaultd-page.conf").read_text("utf-8"))
         lines = [line.strip() for line in (self.root / "usr/share/doc/vaultd/page/nginx.conf").read_text("utf-8").splitlines()]
-        for line in ("proxy_pass http://127.0.0.1:8080;", 'proxy_set_header Authorization "";'):
+        for line in ("proxy_pass http://unix:/run/vaultd-page/signed-in.socket:;", 'proxy_set_header Authorization "";',
+                     "proxy_set_header X-Vault-Designer $remote_user;"):
             self.assertIn(line, lines)
         self.assertIn("define page_port = 8080\n", (self.root / "usr/share/doc/vaultd/page/vaultd-page.nft").read_text("utf-8"))
-        templates = sorted(file.name for file in (TOP / "python/vaultd_tools/src/vaultd_tools/templates").iterdir())
-        self.assertEqual(sorted(file.name for file in (self.root / "usr/lib/python3/dist-packages/vaultd_tools/templates").iterdir()), templates)
+        templates = sorted(file.name for file in (TOP / "python/vaultd_tools/src/vaultd_tools/page/templates").iterdir())
+        self.assertEqual(sorted(file.name for file in (self.root / "usr/lib/python3/dist-packages/vaultd_tools/page/templates").iterdir()), templates)
+
+    def test_nginx(self) -> None:
+        """Each example is one that nginx takes, with a certificate."""
+        self.root.mkdir(parents=True, exist_ok=True)
+        key, certificate = self.root / "key", self.root / "certificate"
+        subprocess.run(["openssl", "req", "-x509", "-newkey", "rsa:2048", "-nodes", "-subj", "/CN=vault.example.org", "-keyout", str(key), "-out",
+                        str(certificate)], check=True, capture_output=True)
+        for example in sorted((CONTRIB / "page").glob("nginx*.conf")):
+            text = re.sub(r"/etc/ssl/certs/\S+\.pem", str(certificate), example.read_text("utf-8")).replace(
+                "/etc/ssl/private/vault.example.org.key", str(key)).replace("listen [::]:443 ssl http2;", "")
+            conf = self.root / "nginx.conf"
+            conf.write_text(f"pid {self.root}/pid;\nevents {{}}\nhttp {{\n{text}\n}}\n", "utf-8")
+            words = [shutil.which("nginx") or "/usr/sbin/nginx", "-t", "-q", "-c", str(conf), "-e", "stderr"]
+            done = subprocess.run(words, capture_output=True, text=True, check=False)
+            self.assertEqual((example.name, done.returncode, done.stderr), (example.name, 0, ""))
 
     def test_the_template_is_the_unit(self) -> None:
         """The template differs from the unit only in its names."""
@@ -275,7 +291,8 @@ class Contrib(unittest.TestCase):
     def test_completion(self) -> None:
         offered = self.completed("vault", "_vault", "vault", "")
         for word in self.client_words():
-            command = {"--to": "get", "--at-most": "wait", "--claim": "put", "--read": "store"}.get(word, "")
+            command = {"--to": "get", "--keep-days": "get", "--writable": "get", "--at-most": "wait", "--claim": "put", "--name": "put",
+                       "--read": "store", "--here": "store", "--yes": "import", "--all": "import", "--in-parts": "import"}.get(word, "")
             self.assertIn(word, self.completed("vault", "_vault", "vault", command, "--") if command else offered)
         self.assertEqual(self.completed("vault", "_vault", "vault", "--as", "anna@h:1", "che"), ["checkout", "checkin"])
         self.assertEqual(self.completed("vault", "_vault", "vault", "put", "/e/b/p", str(CONTRIB) + "/inst"), [str(CONTRIB) + "/install"])

@@ -17,7 +17,7 @@ from typing import Dict, List
 
 from servers import VAULTD, Server
 
-from vault import Client, Refused
+from vault import Client, RefusedError
 
 SEED = int(os.environ.get("VAULT_SEED", "34"))
 MOMENTS = int(os.environ.get("VAULT_MOMENTS", "200"))
@@ -73,7 +73,7 @@ class Designer(threading.Thread):
         try:
             self.client.checkin(standing.claim)
             self.odd.append(f"{standing.claim} was checked in twice")
-        except Refused as refused:
+        except RefusedError as refused:
             if refused.code != 30:
                 self.odd.append(str(refused))
 

@@ -40,7 +40,7 @@ BENCH_NOT_RUN = {"bench/line.py": "proves the crates of a commit from nothing", 
 # A name of code in a span: with an underscore, or of two words as types have it.
 NAME = re.compile(r"(?<![}\w])(?:[A-Za-z]\w*_\w+|[A-Z][a-z]+[A-Z]\w*)")
 # Names from elsewhere: of the language's library and tools, of the kernel, of a cluster's fences; and one of an example.
-FOREIGN = {"writes_back", "shift_remove", "RT_JOBS", "sched_vcpu_pack", "fence_scsi", "fence_mpath", "try_it"}
+FOREIGN = {"writes_back", "shift_remove", "RT_JOBS", "sched_vcpu_pack", "fence_scsi", "fence_mpath", "try_it", "ReadWritePaths"}
 # Options of the kit that its help doesn't have.
 OF_THE_KIT = {"--allow-holes", "--short-goals"}
 # Words before a program's name in a command.
@@ -369,7 +369,7 @@ class Commands(unittest.TestCase):
             if words[0] in BENCH_NOT_RUN:
                 continue
             with self.subTest(line), tempfile.TemporaryDirectory(prefix="vault-test-", dir=MEMORY) as folder:
-                meant = {"DISK": folder, "/dev/shm/FOLDER": folder, "PROGRAM": VAULTD}
+                meant = {"DISK": folder, "/dev/shm/FOLDER": folder, "PROGRAM": VAULTD, "CLONE": str(TOP)}
                 call = ["/usr/bin/python3", *(meant.get(word, word) for word in words), "--tiny", "--program", VAULTD]
                 if '"--port"' in text_of(TOP / words[0]):
                     call += ["--port", str(free_port())]

@@ -6,21 +6,20 @@ import resource
 import shutil
 import subprocess
 import sys
+import test_rclone
 import time
 import unittest
 from pathlib import Path
+from servers import PACKAGES, program
+from stores import NAME, PART, WithStore
 from typing import Any, Callable, Dict, List, Sequence
 from unittest import mock
 
-import test_rclone
-from servers import PACKAGES, program
-from stores import NAME, PART, WithStore
-
-from vault import Misused
-from vault.connection import Connection
-from vault.parts import Parts
-from vault.store import StoreAway
-from vault.working import Working, folder_for
+from vault.protocol.connection import Connection
+from vault.store.base import StoreAwayError
+from vault.store.parts import Parts
+from vault.working import Working
+from vault.working.opening import folder_for
 
 OPTIONAL = ("platformdirs", "rich", "rich.table", "rich.console", "rich.text", "tqdm")
 
@@ -72,21 +71,24 @@ class Disk(WithStore):
         self.assertEqual(self.anna.drafts(claim), [])
 
     def test_slow(self) -> None:
-        """While the bytes take longer than the server bears a silent client, nobody is connected, and the put goes through."""
+        """While the bytes of a long file take longer than the server bears a silent client, nobody is connected; for a short one a connection that
+        the server ended is made anew. The put goes through."""
         self.server.kill()
         self.server.words = ("--workers", "1", "--idle", "1")
         self.server.start()
-        connected = []
+        for number, (most, connected) in enumerate(((0, False), (1 << 26, True))):
+            found = []
 
-        def slow(_folder: Path) -> None:
-            connected.append(self.anna.link.connection is not None)
-            time.sleep(0.8)
+            def slow(_folder: Path) -> None:
+                found.append(self.anna.link.connection is not None)
+                time.sleep(0.8)
 
-        claim = self.anna.checkout(["w:" + PART]).claim
-        with mock.patch("vault.folder_store.sync_folder", slow):
-            self.parts.put(PART, self.file, claim)
-        self.assertEqual(connected, [False] * 4)
-        self.assertEqual((self.anna.checkin(claim), self.names_what_is_there()), (1, 1))
+            self.fill(b"bore %d" % (90 + number))
+            claim = self.anna.checkout(["w:" + PART]).claim
+            with mock.patch("vault.store.folder_store.sync_folder", slow), mock.patch("vault.store.parts.LONG_BYTES", most):
+                self.parts.put(PART, self.file, claim)
+            self.assertEqual(set(found), {connected})
+            self.assertEqual((self.anna.checkin(claim), self.names_what_is_there()), (1, number + 1))
 
 
 class Order(WithStore):
@@ -143,9 +145,9 @@ class Changed(WithStore):
             path.write_bytes(b"mine")
 
         folder = folder_for(self.parts, "/engine/block", work)
-        with folder.locked(), mock.patch.object(self.parts, "write", write), self.assertRaises(Misused) as left:
-            Working(self.parts, folder).get()
-        self.assertIn("was changed right now, and is left as it is", str(left.exception))
+        with folder.locked(), mock.patch.object(self.parts, "write", write):
+            left = Working(self.parts, folder).get().left
+        self.assertIn("was changed right now, so it stays", left[0][1])
         self.assertEqual(path.read_bytes(), b"mine")
         folder = folder_for(self.parts, "/engine/block", work)
         with folder.locked():
@@ -173,8 +175,8 @@ class Libraries(WithStore):
 
     def without(self, missing: Sequence[str], *words: str, seconds: float = 1.0) -> "subprocess.Popen[bytes]":
         """The program, on a terminal without these libraries; what takes longer than this many seconds is shown."""
-        code = (f"import sys; sys.modules.update(dict.fromkeys({tuple(missing)!r})); import vault.output; vault.output.METER_SECONDS = {seconds};"
-                " from vault.program import main; raise SystemExit(main())")
+        code = (f"import sys; sys.modules.update(dict.fromkeys({tuple(missing)!r})); import vault.cli.output;"
+                f" vault.cli.output.METER_SECONDS = {seconds}; from vault.cli.program import main; raise SystemExit(main())")
         path = os.pathsep.join(str(package / "src") for package in PACKAGES)
         environment: Dict[str, str] = {**self.environment(), "PYTHONPATH": path, "TERM": "xterm"}
         self.terminal, other = pty.openpty()
@@ -249,7 +251,7 @@ class Remotes:
             self.assertEqual((self.root / "back").read_bytes(), content)
             self.fill(b"bore 81")
             claim = self.anna.checkout(["w:" + PART]).claim
-            with self.assertRaises(StoreAway):
+            with self.assertRaises(StoreAwayError):
                 self.parts.put(PART, self.file, claim)
             self.assertEqual(self.anna.drafts(claim), [])
 

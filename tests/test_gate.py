@@ -22,9 +22,10 @@ from forger import KEY, Forger, string
 from servers import MEMORY, TOP, VAULTD, Cutter, Limits, Server, program
 from tries import heard, told
 
-from vaultd_tools.gate_keys import complaints_of
-from vaultd_tools.lines import LONGEST_LINE, Lines, command_of
-from vaultd_tools.log import outcomes, records
+from vault.protocol.grammar import LINE_BYTES
+from vaultd_tools.gate.history import outcomes, records
+from vaultd_tools.gate.keys import complaints_of
+from vaultd_tools.gate.lines import Lines, command_of
 
 ATTACKS: List[Dict[str, Any]] = tomllib.loads((TOP / "tests" / "data" / "gate-attacks.toml").read_text("utf-8"))["attack"]
 TIMES = re.compile(r"<(\d+) ([^>]+)>", re.DOTALL)
@@ -113,26 +114,26 @@ class ReadAlike(unittest.TestCase):
         server = Server(folder=MEMORY)
         self.addCleanup(server.close)
         server.start()
-        for size in (LONGEST_LINE - 1, LONGEST_LINE, LONGEST_LINE + 1, LONGEST_LINE + 2):
+        for size in (LINE_BYTES - 1, LINE_BYTES, LINE_BYTES + 1, LINE_BYTES + 2):
             line = b"checkout" + b" r:/" * ((size - 8) // 4) + b"x" * ((size - 8) % 4)
             self.assertEqual(len(line), size)
             with server.connect() as connection:
                 reply = told(connection, line + b"\n", 1)
-            self.assertEqual(reply, b"ERR 10\n" if size > LONGEST_LINE else b"ERR 11\n", size)
-            self.assertEqual(command_of(line) is None, size > LONGEST_LINE, size)
+            self.assertEqual(reply, b"ERR 10\n" if size > LINE_BYTES else b"ERR 11\n", size)
+            self.assertEqual(command_of(line) is None, size > LINE_BYTES, size)
 
     def test_pieces(self) -> None:
         """However the bytes come, the lines are the same, except for what a line has beyond the longest length."""
         chance = random.Random(67)
         for _ in range(300):
             text = b"\n".join(mutated(chance) * chance.choice((1, 1, 1, 400)) for _ in range(chance.randrange(1, 9)))
-            whole = [line[:LONGEST_LINE + 1] for line in text.split(b"\n")[:-1]]
+            whole = [line[:LINE_BYTES + 1] for line in text.split(b"\n")[:-1]]
             lines, found, at = Lines(), [], 0
             while at < len(text):
                 size = chance.choice((1, 2, 7, 4096, 8192))
-                found += [line[:LONGEST_LINE + 1] for line in lines.ended_by(text[at:at + size])]
+                found += [line[:LINE_BYTES + 1] for line in lines.ended_by(text[at:at + size])]
                 at += size
-                self.assertLessEqual(len(lines.begun), LONGEST_LINE + 1)
+                self.assertLessEqual(len(lines.begun), LINE_BYTES + 1)
             self.assertEqual(found, whole)
 
 
@@ -283,6 +284,60 @@ class Room(WithDoor):
         self.assertEqual(len(list(self.door.places.iterdir())), 9)
         for process in eight:
             process.communicate(timeout=60)
+
+
+class WithoutConversation(WithDoor):
+    """Connections in which nothing is said are ended by the lines of contrib/gate/sshd.conf."""
+
+    MOST = 40
+
+    def settings(self, seconds: int) -> List[str]:
+        """Those lines; an hour of silence is shorter here."""
+        lines = re.findall(r"^  ((?:UnusedConnection|Channel)Timeout .*)$", (TOP / "contrib" / "gate" / "sshd.conf").read_text("utf-8"), re.MULTILINE)
+        self.assertEqual(lines, ["UnusedConnectionTimeout 15", "ChannelTimeout session:*=1h"])
+        return [line.replace("1h", f"{seconds}s") for line in lines]
+
+    def without_command(self, count: int) -> "List[subprocess.Popen[bytes]]":
+        """So many connections by `ssh -N`."""
+        environment = self.door.environment("guest")
+        return [subprocess.Popen(["ssh", "-N", "-o", "BatchMode=yes", "-p", str(self.door.port), "127.0.0.1"], env=environment,
+                                 stdin=subprocess.DEVNULL, stdout=subprocess.DEVNULL, stderr=subprocess.PIPE) for _ in range(count)]
+
+    def start_door(self, seconds: int) -> Door:
+        """An sshd with these lines."""
+        self.door.close()
+        self.door = Door(self.recorder.port, self.settings(seconds))
+        self.addCleanup(self.door.close)
+        self.door.admit("guest", "--read")
+        self.door.start()
+        return self.door
+
+    def test_no_command(self) -> None:
+        """Forty by `ssh -N` are ended after fifteen seconds, and a conversation beside them goes on."""
+        self.start_door(600)
+        with self.door.ssh("guest") as talks:
+            assert talks.stdin is not None and talks.stdout is not None
+            talks.stdin.write(b"hello guest\n")
+            talks.stdin.flush()
+            self.assertEqual(talks.stdout.readline()[:11], b"OK session ")
+            idle = self.without_command(self.MOST)
+            said = [process.communicate(timeout=60)[1].decode("utf-8") for process in idle]
+            self.assertEqual([process.returncode for process in idle], self.MOST * [255], said)
+            ended = (self.door.folder / "sshd.log").read_text("utf-8").count("terminating inactive connection from user")
+            self.assertEqual(ended, self.MOST, said)
+            self.assertEqual(talks.communicate(b"list /\nquit\n", timeout=60)[0], b"OK list 1 engine\nOK left\n")
+
+    def test_silent_conversation(self) -> None:
+        """A conversation that is silent for as long as the other line says is ended, its place is free, and a new one comes in."""
+        self.start_door(3)
+        process = self.door.ssh("guest")
+        assert process.stdin is not None and process.stdout is not None
+        process.stdin.write(b"hello guest\n")
+        process.stdin.flush()
+        self.assertEqual(process.stdout.readline()[:11], b"OK session ")
+        self.assertEqual(process.stdout.read(), b"")
+        process.communicate(timeout=60)
+        self.assertEqual(self.conversation("guest", b"hello guest\nquit\n"), ["OK session", "OK left"])
 
 
 class Logged(WithDoor):
@@ -556,6 +611,48 @@ class Alone(unittest.TestCase):
         told(client, b"hello anna\nmake /b\nquit\n", 3)
         self.assertEqual(process.communicate(timeout=20)[1].count(b"no system log takes lines"), 1)
 
+    def without_file(self, syslog: str) -> Tuple["subprocess.Popen[bytes]", socket.socket]:
+        """A gate to whose log no file is named."""
+        ours, theirs = socket.socketpair()
+        process = subprocess.Popen([*self.elsewhere(), "--syslog", syslog], stdin=theirs.fileno(), stdout=theirs.fileno(), stderr=subprocess.PIPE)
+        theirs.close()
+        self.addCleanup(self.end, process)
+        self.addCleanup(ours.close)
+        return process, ours
+
+    def test_without_any_log(self) -> None:
+        """A change that no log would have isn't sent on: neither from the start, nor once the system's log is gone, until it is back."""
+        path = str(self.door.folder / "syslog")
+        process, client = self.without_file(path)
+        self.assertEqual(replies(told(client, b"hello anna\nmake /a\nlist /\n", 3)), ["OK session", "ERR 80", "OK list 0"])
+        with socket.socket(socket.AF_UNIX, socket.SOCK_DGRAM) as system:
+            system.bind(path)
+            self.assertEqual(told(client, b"make /b\n", 1), b"OK place 1\n")
+            self.assertEqual([system.recv(65536).split()[-4:] for _ in range(2)][0][-3:], [b"asks", b"make", b"/b"])
+        Path(path).unlink()
+        self.assertEqual(told(client, b"make /c\nlist /\n", 2), b"ERR 80\nOK list 1 b\n")
+        with socket.socket(socket.AF_UNIX, socket.SOCK_DGRAM) as system:
+            system.bind(path)
+            self.assertEqual(told(client, b"make /d\nquit\n", 2), b"OK place 2\nOK left\n")
+        said = process.communicate(timeout=20)[1].decode("utf-8")
+        refusal = (f"vaultd-gate: no log takes a line: no system log takes lines at {path}: No such file or directory, and no file is named with"
+                   " --log. Nothing was sent on; ask whoever runs the server.\n")
+        self.assertEqual((said.count(refusal), said.count("Nothing was sent on")), (2, 2), said)
+
+    def test_system_log_that_is_started_anew(self) -> None:
+        """A line that the earlier system log doesn't take goes to the one in its place."""
+        path = str(self.door.folder / "syslog")
+        with socket.socket(socket.AF_UNIX, socket.SOCK_DGRAM) as system:
+            system.bind(path)
+            process, client = self.without_file(path)
+            told(client, b"hello anna\nmake /a\n", 2)
+        Path(path).unlink()
+        with socket.socket(socket.AF_UNIX, socket.SOCK_DGRAM) as system:
+            system.bind(path)
+            self.assertEqual(told(client, b"make /b\nquit\n", 2), b"OK place 2\nOK left\n")
+            self.assertEqual([system.recv(65536).split(b" as=anna ")[1] for _ in range(2)], [b"asks make /b", b"told make /b -> OK place 2"])
+        self.assertEqual(process.communicate(timeout=20)[1], b"")
+
     def test_ends_with_the_connection(self) -> None:
         """The gate ends with its client, with its server, after 4,096 lines, and after 16 MiB."""
         process, client = self.gate()
@@ -706,7 +803,9 @@ class Keys(unittest.TestCase):
                 (self.GOOD.replace("anna", "Anna"), no_gate), (self.GOOD.replace("vaultd-gate", "sh"), "its command is not the gate"),
                 (self.GOOD.replace("/usr/sbin/", ""), "its command is not the gate"), (self.GOOD.replace('/g"', '/g;sh"'), "a shell reads"),
                 (self.GOOD.replace("anna", "$SSH_ORIGINAL_COMMAND"), no_gate), ("cert-authority," + self.GOOD, "cert-authority"),
-                (self.GOOD.replace(" --log", '",command="sh'), "it can't be read"), ("restrict,command=vaultd-gate ", "it can't be read")):
+                (self.GOOD.replace(" --log", '",command="sh'), "it can't be read"), ("restrict,command=vaultd-gate ", "it can't be read"),
+                (self.GOOD.replace(" --log /var/log/g", ""), "its command has no `--log FILE`"),
+                (self.GOOD.replace(" --log /var/log/g", " --read"), "its command has no `--log FILE`")):
             with self.subTest(options):
                 _, wrong = complaints_of([options + self.KEY])
                 self.assertIn(complaint, "".join(wrong[:1]))

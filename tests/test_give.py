@@ -6,7 +6,7 @@ from unittest import mock
 
 from designers import PART, WithServer
 
-from vault import Client, Misused, NotKnown, Refused, Unreachable
+from vault import Client, MisusedError, NotKnownError, RefusedError, UnreachableError
 
 
 class Knowing(WithServer):
@@ -19,7 +19,7 @@ class Knowing(WithServer):
 
     def refused(self, *words: str, code: int) -> None:
         """A method of anna's client that is refused."""
-        with self.assertRaises(Refused) as refused:
+        with self.assertRaises(RefusedError) as refused:
             getattr(self.anna, words[0])(*words[1:])
         self.assertEqual(refused.exception.code, code)
 
@@ -49,7 +49,7 @@ class Give(Knowing):
         """Once it is given back, she can put and check in again, and her client still knows what it was asked for."""
         self.anna.put(PART, b"x")
         self.anna.give(self.claim, "ben")
-        with self.assertRaises(Misused):
+        with self.assertRaises(MisusedError):
             self.anna.put(PART, b"y")
         self.ben.give(self.claim, "anna")
         standing, kept = self.anna.mine()[0]
@@ -74,7 +74,8 @@ class Give(Knowing):
             self.cutter.after.append(b"checkin")
             if settled_later:
                 short = self.client("anna", patience=0.0)
-                with self.assertRaises(NotKnown), mock.patch.object(short.recovery, "find_out", side_effect=Unreachable("No server answers.")):
+                away = UnreachableError("No server answers.")
+                with self.assertRaises(NotKnownError), mock.patch.object(short.recovery, "find_out", side_effect=away):
                     short.checkin(self.claim)
                 self.assertEqual(self.anna.mine(), [])
                 self.assertEqual(self.notices, [f"Your earlier `checkin {self.claim}` was done."])
@@ -93,18 +94,18 @@ class Give(Knowing):
 
         self.cutter.meanwhile = abandon
         self.cutter.after.append(b"give")
-        with self.assertRaises(Refused) as refused:
+        with self.assertRaises(RefusedError) as refused:
             self.anna.give(self.claim, "ben")
         self.assertIn("vault drafts", str(refused.exception))
         self.assertEqual(self.anna.kept_drafts(self.claim), {PART: b"dear"})
 
     def test_refusals(self) -> None:
         self.refused("give", "c9", "ben", code=30)
-        with self.assertRaises(Misused):
+        with self.assertRaises(MisusedError):
             self.anna.give(self.claim, "anna")
-        with self.assertRaises(Misused):
+        with self.assertRaises(MisusedError):
             self.anna.give(self.claim, "Ben")
-        with self.assertRaises(Refused):
+        with self.assertRaises(RefusedError):
             self.ben.mine([self.claim])
         self.assertEqual(self.ben.mine(), [])
 
@@ -122,7 +123,7 @@ class Note(Knowing):
             self.anna.set_note(self.claim, b"")
             self.assertEqual(self.ben.note(self.claim), b"")
         self.anna.set_note(self.claim, b"x" * 64)
-        with self.assertRaises(Misused):
+        with self.assertRaises(MisusedError):
             self.anna.set_note(self.claim, b"x" * 65)
         self.refused("note", "c9", code=30)
 
@@ -130,7 +131,7 @@ class Note(Knowing):
         for cut, done in zip(self.both(), ("was not done. Say it again.", "was done.")):
             cut.append(b"note c1 6162")
             short = Client("anna", "127.0.0.1", self.cutter.port, Path(self.folder.name), 0.0, 0.0)
-            with self.assertRaises(NotKnown):
+            with self.assertRaises(NotKnownError):
                 short.set_note(self.claim, b"ab")
             short.close()
             self.anna.mine()

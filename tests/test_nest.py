@@ -4,7 +4,7 @@ import unittest
 
 from designers import PART, WithServer
 
-from vault import Misused, Refused
+from vault import MisusedError, RefusedError
 
 
 class Nest(WithServer):
@@ -21,7 +21,7 @@ class Nest(WithServer):
 
     def test_refused(self) -> None:
         for place, code in (("/wing", 22), ("/engine/wing", 22), ("/engine/block", 22), (PART, 21), ("/wing/a/b", 20)):
-            with self.assertRaises(Refused) as refused:
+            with self.assertRaises(RefusedError) as refused:
                 self.anna.nest(place)
             self.assertEqual(refused.exception.code, code, place)
 
@@ -30,10 +30,10 @@ class Nest(WithServer):
         for name in "cdef":
             place += "/" + name
             self.anna.nest(place)
-        with self.assertRaises(Refused):
+        with self.assertRaises(RefusedError):
             self.anna.nest(place + "/g")
         self.anna.make(place + "/g")
-        with self.assertRaises(Misused):
+        with self.assertRaises(MisusedError):
             self.anna.make(place + "/g/h")
 
 

@@ -8,10 +8,11 @@ from typing import Callable, Dict, List
 
 from servers import Answering
 
-from vault import Client, NotKnown, Refused, VaultError
-from vault.card import Card, now
-from vault.parts import Parts
-from vault.working import Working, folder_for
+from vault import Client, NotKnownError, RefusedError, VaultError
+from vault.store.card import Card, now
+from vault.store.parts import Parts
+from vault.working.opening import folder_for
+from vault.working import Working
 
 
 class Odd(Answering):
@@ -69,7 +70,7 @@ class OddReplies(unittest.TestCase):
     def test_every_checkout_is_anothers(self) -> None:
         """So the ssh gate answers a key for questions alone: the search for a check-out whose reply was lost ends."""
         self.server.replies = {b"checkout": b"ERR 82", b"save": b"ERR 31", b"claims": b"ERR 10"}
-        with self.assertRaises(NotKnown):
+        with self.assertRaises(NotKnownError):
             self.client.checkout(["w:/e"])
         told: List[str] = []
         self.client.notice = told.append
@@ -83,7 +84,7 @@ class OddReplies(unittest.TestCase):
         asked: List[Callable[[], object]] = [lambda: self.client.give("c1", "ben"), lambda: self.client.note("c1"),
                                              lambda: self.client.set_note("c1", b"x")]
         for number, one in enumerate(asked):
-            with self.assertRaises(Refused, msg=str(number)) as refused:
+            with self.assertRaises(RefusedError, msg=str(number)) as refused:
                 one()
             self.assertIn("does not know this command", str(refused.exception))
         self.assertEqual([standing.claim for standing, _ in self.client.mine(["c1"])], ["c1"])
@@ -99,7 +100,7 @@ class OddReplies(unittest.TestCase):
     def test_unknown_refusal(self) -> None:
         """It is shown as it is, whatever it says; one with no number of a refusal is no reply."""
         for said in ("99 what", "99 {x}", "99 {claim.__class__}", "99 {"):
-            with self.assertRaises(Refused) as refused:
+            with self.assertRaises(RefusedError) as refused:
                 self.server.replies = {b"count": b"ERR " + said.encode()}
                 self.client.version("/e/b/p")
             self.assertEqual(str(refused.exception), f"The server refused with {said}.")

@@ -10,7 +10,10 @@ from pathlib import Path
 from typing import Dict, List
 
 import machines
-from servers import TOP, VAULTD
+from servers import TOP, VAULTD, program
+
+import vault
+import vaultd_tools
 
 OPERATING, SCALE = ((TOP / "docs" / page).read_text("utf-8") for page in ("OPERATING.md", "SCALE.md"))
 # How each block of the page begins that the machine runs.
@@ -19,7 +22,7 @@ BLOCKS = {"start.sh": "contrib/install", "watch.sh": "systemctl enable --now vau
           "sweep.sh": "runuser -u vaultd -- vaultd-sweep",
           "page.sh": "apt-get install python3-aiohttp",
           "backup.sh": "systemctl enable --now vaultd-backup.timer", "by_hand.sh": "same() {", "look.sh": "vaultd check /var/lib/vaultd/a",
-          "gate.sh": "apt-get install openssh-server nftables"}
+          "gate.sh": "apt-get install openssh-server nftables", "upgrade.sh": "systemctl start vaultd-backup  # the way back"}
 # The one of the page on several vaults.
 PLANT = "sed 's/7070/7071/; /^VAULTD_BACKUPS/d' /etc/default/vaultd"
 # The others: the packages are made before, and tests/test_rclone.py has a remote.
@@ -73,6 +76,7 @@ class Packages(unittest.TestCase):
         """Two packages, with the program's version and the time of the commit, and the same bytes each time."""
         version = self.version(self.packages[0])
         self.assertRegex(version, "^" + re.escape(self.said(VAULTD, "--version").split()[1]) + r"\+20\d{12}$")
+        self.assertTrue(version.startswith(self.said(*program("vault"), "--version").split()[1] + "+"))
         architecture = self.said("dpkg", "--print-architecture").strip()
         self.assertEqual([path.name for path in self.packages], [f"vault_{version}_all.deb", f"vaultd_{version}_{architecture}.deb"])
         again = self.folder / "again"
@@ -83,6 +87,16 @@ class Packages(unittest.TestCase):
     def version(self, package: Path) -> str:
         """The version of a package."""
         return self.said("dpkg-deb", "--field", str(package), "Version").strip()
+
+    def test_one_version(self) -> None:
+        """The server, the client and the tools have one version; the packages' client says theirs."""
+        server = self.said(VAULTD, "--version").split()[1]
+        self.assertEqual((vault.__version__, vaultd_tools.__version__), (server, server))
+        root = self.folder / "unpacked"
+        self.said("dpkg-deb", "-x", str(self.packages[0]), str(root))
+        installed = f"PYTHONPATH={root / 'usr' / 'lib' / 'python3' / 'dist-packages'}"
+        said = self.said("env", installed, "/usr/bin/python3", str(root / "usr" / "bin" / "vault"), "--version")
+        self.assertEqual(said, f"vault {self.version(self.packages[0])}\n")
 
     def test_upgrades(self) -> None:
         """What is built of a later commit is an upgrade, and the server wants the client that was built with it."""
@@ -105,6 +119,13 @@ class Packages(unittest.TestCase):
         names = [Path(path).name for path in held if not path.endswith("/")]
         self.assertEqual(wanted - set(names), set())
         self.assertEqual(len(names), len(set(held) - {path for path in held if path.endswith("/")}))
+
+    def test_first_test(self) -> None:
+        """What the page's first commands run beyond the least Debian comes with the package: each program by its package."""
+        first, recommends = block_of(BLOCKS["start.sh"]), self.said("dpkg-deb", "--field", str(self.packages[1]), "Recommends").split(", ")
+        for name, package in (("systemctl", "systemd"), ("journalctl", "systemd"), ("nc", "netcat-openbsd")):
+            self.assertRegex(first, rf"(?m)(^|\| ){name} ")
+            self.assertIn(package, recommends)
 
     def test_lintian(self) -> None:
         """lintian finds no error in the packages."""
@@ -131,6 +152,8 @@ class Packages(unittest.TestCase):
         for name, first in {**BLOCKS, "plant.sh": PLANT}.items():
             files[name] = self.folder / name
             files[name].write_text(PREAMBLE + block_of(first), "utf-8")
+        later = self.make(self.folder / "later", SOURCE_DATE_EPOCH="1900000000")
+        files.update({f"later-{package.name.partition('_')[0]}": package for package in later})
         files["script"] = TOP / "tests" / "data" / "in-a-machine"
         status, said = machines.run_in_machine(files, MACHINE_SECONDS)
         self.assertEqual(status, 0, said)

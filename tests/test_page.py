@@ -2,7 +2,10 @@
 
 import asyncio
 import contextlib
+import csv
 import gzip
+import io
+import json
 import re
 import select
 import shutil
@@ -18,14 +21,14 @@ from servers import MEMORY, TOP, Server
 from tries import told
 from with_page import CARD, PART, WithPage, fill
 
-from vaultd_tools import page_render, page_views, page_watch, page_web
-from vaultd_tools.files import Claim
-from vaultd_tools.page_line import curves
-from vaultd_tools.page_model import Model
-from vaultd_tools.page_render import address, in_bytes
-from vaultd_tools.page_wire import QUESTIONS
+from vault.store.card import Card
+from vaultd_tools.page import doors, render, search, streams, views, watch, web
+from vaultd_tools.page.model import Model
+from vaultd_tools.page.render import address, in_bytes
+from vaultd_tools.page.wire import QUESTIONS
 
-KINDS = ("/", "/engine", "/engine/block", PART, "/designers", "/designers/anna", "/designers/nobody-yet", "/.search", "/.search?q=piston")
+KINDS = ("/", "/engine", "/engine/block", PART, "/designers", "/designers/anna", "/designers/nobody-yet", "/.search", "/.search?q=piston",
+         "/.claim/c2", "/.branch?at=/engine")
 STREAM = b"GET /.events?see=/ HTTP/1.1\r\nHost: 127.0.0.1\r\n\r\n"
 UPGRADE = b"GET / HTTP/1.1\r\nHost: 127.0.0.1\r\nConnection: Upgrade\r\nUpgrade: websocket\r\n\r\n"
 FROM_ELSEWHERE = r'(?:src|href|action)="(?!/|#)[^"]*"|="//|<style|<script>| style=| on[a-z]+='
@@ -37,7 +40,7 @@ class Reading(WithPage):
     def test_kinds(self) -> None:
         """Each kind is there, with the headers that keep other pages out, and without one that lets them in."""
         self.anna.checkout(["w:" + PART])
-        for path in (*KINDS, "/.static/page.css", "/.static/page.js", "/.static/icon.svg"):
+        for path in (*KINDS, "/.static/page.css", "/.static/page.js", "/.static/stream.js", "/.static/icon.svg"):
             status, headers, body = self.page.get(path)
             self.assertEqual((path, status), (path, 200))
             self.assertIn("frame-ancestors 'none'", headers["content-security-policy"])
@@ -76,16 +79,61 @@ class Reading(WithPage):
         self.ben.checkout(["r:/engine/block"])
         self.ben.checkout(["w:/wing"])
         whole = self.text("/")
-        for part in ("2 held, 1 waiting; whoever waits for most waits for 1.", "anna c2 held change " + PART, "<b>until Friday</b>",
-                     "ben c3 waits behind c2 ( anna ) look at /engine/block", "1 to go before it", "1 waits for it",
-                     "2 projects, 1 assembly, 1 part."):
-            self.assertIn(part, whole)
+        for part in ("1 waiting 1 in the way 2 held 2 designers", "1 claim keeps 1 waiting; first what does so for longest.",
+                     "an anna c2 holds stops 1 since", "change " + PART + " (contested)", "<b>until Friday</b>",
+                     "be ben c3 waits to look at /engine/block for c2 of anna at " + PART + " (contested) since",
+                     "1 claim is in nobody’s way, by designer. be ben 1 held /wing ben c4 held change /wing",
+                     "2 projects, 1 assembly, 1 part.", "beneath: 1 held, 1 waiting", "beneath: 1 held"):
+            self.assertIn(part, re.sub(r" +", " ", whole.replace("be ben c4", "ben c4")))
         self.assertNotIn("c4", self.text("/engine"))
         self.assertNotIn("c2", self.text("/wing"))
+        self.assertIn("ben c3 waits for c2 ( anna )", self.text("/designers/ben"))
         self.assertIn("ben c4 held change /wing", self.text("/designers/ben"))
         self.assertRegex(self.text("/designers/anna"), r"c2 held change .* Who waits for them be ben c3")
         self.assertIn("nobody-yet has nothing checked out", self.text("/designers/nobody-yet"))
-        self.assertRegex(self.text("/designers"), r"an anna 1 0 1 change \S+ be ben 1 1 0")
+        self.assertRegex(self.text("/designers"), r"an anna 1 0 1 change \S+ \(contested\) be ben 1 1 0 change /wing look at /engine/block ")
+
+    def test_who_is_at_a_place(self) -> None:
+        """Its heading names who changes it, who looks and who waits; that nobody has it is never said beside that."""
+        self.assertIn("It is free.", self.text(PART))
+        self.anna.checkout(["r:" + PART])
+        until(lambda: "piston Kolben <b>80</b>.SLDPRT an anna looks at it." in self.text(PART), 5)
+        self.ben.checkout(["w:" + PART])
+        until(lambda: "an anna looks at it. be ben waits." in self.text(PART), 5)
+        self.anna.abandon("c2")
+        until(lambda: "be ben has it for change." in self.text(PART), 5)
+        self.anna.checkout(["r:/engine"])
+        until(lambda: "be ben has it, or something beneath it, for change. an anna waits here." in self.text("/engine"), 5)
+
+    def test_a_claim(self) -> None:
+        """A claim's own page has what it has, what it waits for, and all that wait for it; it says so when it is gone."""
+        for _ in range(3):
+            self.anna.checkout(["w:" + PART])
+        self.ben.checkout(["r:/engine"])
+        self.assertRegex(self.text("/.claim/c2"), r"anna holds it since .* What it waits for Nothing. What waits for it .*c3 .*c4 .*c5 ")
+        self.assertRegex(self.text("/.claim/c5"), r"ben waits with it since .* What it waits for an anna c2 held .* What waits for it Nobody.")
+        self.anna.abandon("c2")
+        until(lambda: "It is gone" in self.text("/.claim/c2"), 5)
+        self.assertEqual([self.page.get("/.claim/" + name)[0] for name in ("c0", "x1", "", "c12345678901")], [404] * 4)
+
+    def test_tables(self) -> None:
+        """What a page shows is there for other programs, too, and no cell is a formula."""
+        self.anna.checkout(["w:" + PART])
+        self.anna.set_note("c2", b"=HYPERLINK(1)")
+        self.ben.checkout(["r:/engine"])
+        self.page.page("/")
+        status, headers, body = self.page.get("/?as=csv")
+        self.assertEqual((status, headers["content-type"]), (200, "text/csv; charset=utf-8"))
+        rows = list(csv.DictReader(io.StringIO(body)))
+        cells = ("claim", "designer", "standing", "items", "note", "waits_for", "stops")
+        self.assertEqual([tuple(row[cell] for cell in cells) for row in rows],
+                         [("c2", "anna", "held", "w:" + PART, "'=HYPERLINK(1)", "", "1"), ("c3", "ben", "queued", "r:/engine", "", "c2", "0")])
+        self.assertEqual([row["note"] for row in json.loads(self.page.page("/engine?as=json"))], ["=HYPERLINK(1)", None])
+        self.assertEqual([row["claim"] for row in json.loads(self.page.page("/designers/ben?as=json"))], ["c3"])
+        self.assertEqual([(row["designer"], row["stops"]) for row in json.loads(self.page.page("/designers?as=json"))], [("anna", 1), ("ben", 0)])
+        version = json.loads(self.page.page(PART + "?as=json"))[0]
+        self.assertEqual((version["version"], version["name"], version["by"], version["size"]), (1, CARD.name, "anna", CARD.size))
+        self.assertEqual([self.page.get(path)[0] for path in ("/?as=xml", "/?as=", "/.claim/c2?as=csv", "/nowhere?as=csv")], [404] * 4)
 
     def test_how_full(self) -> None:
         """The page shows what it can ask for; of what it can't, it says who can."""
@@ -107,6 +155,30 @@ class Reading(WithPage):
         body = self.page.page("/.search?q=%3Cscript%3Ealert(1)%3C/script%3E%E2%80%AE%00")
         self.assertIn("&lt;script&gt;alert(1)&lt;/script&gt;\\u202e\\x00".replace("\\x00", "\\u0000"), body)
         self.assertNotIn("<script>alert", body)
+
+    def test_a_search_of_old_versions(self) -> None:
+        """An earlier version is found once it was read, too; each result says where it has the words, and the page how far it has looked."""
+        for number in range(30):
+            self.check_in(Card("ab" * 32, 5, f"Bolt {number}.step", "anna", "2026-11-20T08:15:00Z", f"reason x{number}y").spell())
+        self.page.page("/")
+        until(lambda: "in all versions" in self.text("/.search?q=reason"), 20)
+        text = self.text("/.search?q=Reason+X3Y")
+        self.assertRegex(text, r"1 thing found .* in version 5 why reason x3y")
+        self.assertIn("<mark>reason</mark>", self.page.page("/.search?q=reason"))
+        self.assertIn("Kolben", self.text("/.search?q=kolben"))
+
+    def test_a_search_with_much_found(self) -> None:
+        """A hundred places stand on a page, and links lead to the others."""
+        with self.server.connect() as client:
+            told(client, b"hello anna\n" + b"".join(b"make /wing_%d\n" % n + b"".join(b"make /wing_%d/a%d\n" % (n, m) for m in range(60))
+                                                    for n in range(4)), 1 + 4 * 61)
+        self.page.page("/")
+        until(lambda: "244 things" in self.text("/.search?q=wing"), 20)
+        first, second, third = (self.page.page("/.search?q=wing" + rest) for rest in ("", "&from=100", "&from=200"))
+        self.assertEqual([len(re.findall(r'class="path" href="/wing', page)) for page in (first, second, third)], [100, 100, 44])
+        self.assertIn('href="/.search?q=wing&amp;from=100"', first)
+        self.assertIn('href="/.search?q=wing"', second)
+        self.assertNotIn("More places", third)
 
     def test_names_that_the_page_has_itself(self) -> None:
         """Places may have any name: each has an address of its own, and no page takes another's."""
@@ -182,18 +254,37 @@ class Strangers(WithPage):
         self.assertEqual(self.page.get("/", Origin=self.page.address)[0], 200)
 
     def test_methods(self) -> None:
-        for method in ("HEAD", "POST", "PUT", "DELETE", "OPTIONS", "TRACE", "CONNECT", "make"):
+        for method in ("POST", "PUT", "DELETE", "OPTIONS", "TRACE", "CONNECT", "make"):
             status, headers, _ = self.page.get("/", method)
             self.assertIn((method, status), ((method, 405), (method, 400)))
             if status == 405:
-                self.assertEqual(headers["allow"], "GET")
-        for method in ("HEAD", "POST", "OPTIONS"):
+                self.assertEqual(headers["allow"], "GET, HEAD")
+        for method in ("POST", "OPTIONS"):
             self.assertEqual(self.page.get("/", method)[0], 405)
+        status, headers, body = self.page.get("/", "HEAD")
+        self.assertEqual((status, int(headers["content-length"]) > 1000, body), (200, True, ""))
+        self.assertEqual(self.page.get("/.events?see=/", "HEAD")[0], 405)
+
+    def test_shorter_on_the_way(self) -> None:
+        """A page is compressed for who takes that, but not one that repeats what its address says."""
+        for path in ("/", "/.static/page.css"):
+            raw = self.page.raw(f"GET {path} HTTP/1.1\r\nHost: 127.0.0.1\r\nAccept-Encoding: br, gzip\r\n\r\n".encode())
+            head, _, body = raw.partition(b"\r\n\r\n")
+            self.assertIn(b"Content-Encoding: gzip", head)
+            self.assertGreater(len(gzip.decompress(body)), 2 * len(body))
+        self.assertNotIn("content-encoding", self.page.get("/.search?q=x", Accept_Encoding="gzip")[1])
+        self.assertNotIn("content-encoding", self.page.get("/")[1])
+
+    def test_a_slash_at_the_end(self) -> None:
+        """It leads to the place, and nowhere else."""
+        status, headers, _ = self.page.get("/engine/block/")
+        self.assertEqual((status, headers["location"]), (302, "/engine/block"))
+        self.assertEqual([self.page.get(path)[0] for path in ("//", "//evil.example/", "/engine//", "/Engine/")], [404] * 4)
 
     def test_paths(self) -> None:
         """A place has one spelling; nothing leads out, and nothing that is asked for stands in the answer as markup."""
         for path in ("/%2e%2e/%2e%2e/etc/passwd", "/../../etc/passwd", "/.static/../page.py", "/.static/%2e%2e/board.py", "/.static/layout.html",
-                     "//", "//evil.example/", "/engine/", "/engine//block", "/ENGINE", "/engine%2fblock", "/%65ngine", "/a/b/c/d/e/f/g/h",
+                     "//", "//evil.example/", "/engine//block", "/ENGINE", "/engine%2fblock", "/%65ngine", "/a/b/c/d/e/f/g/h",
                      "/" + "a" * 33, "/<script>alert(1)</script>", "/.events/x", "/.x", "/engine;x", "/engine%00", "/designers/Anna",
                      "/designers/" + "a" * 33):
             status, _, body = self.page.get(path)
@@ -334,7 +425,7 @@ class Strangers(WithPage):
         self.assertEqual(self.page.end(), b"")
 
     def test_streams_of_nothing(self) -> None:
-        for see in ("", "x", "/../x", "/.search", "/.events", "//", "/" + "a" * 40, "/engine%0d%0aX:1", "/%3Cscript%3E"):
+        for see in ("", "x", "/../x", "/.events", "/.branch", "//", "/" + "a" * 40, "/engine%0d%0aX:1", "/%3Cscript%3E"):
             self.assertEqual((see, self.page.get("/.events?see=" + see)[0]), (see, 404))
 
     def test_a_thousand_connections(self) -> None:
@@ -357,7 +448,7 @@ class Upgrade(WithPage):
         shutil.copytree(TOP / "python", packages, ignore=shutil.ignore_patterns("__pycache__"))
         page = PageServer(self.server.port, packages=packages)
         self.addCleanup(page.end)
-        templates = list((packages / "vaultd_tools/src/vaultd_tools/templates").glob("*.html"))
+        templates = list((packages / "vaultd_tools/src/vaultd_tools/page/templates").glob("*.html"))
         self.assertGreater(len(templates), 5)
         for template in templates:
             template.write_text("{{ what_only_a_later_version_has }}", "utf-8")
@@ -373,14 +464,14 @@ class InThisProcess(unittest.IsolatedAsyncioTestCase):
         self.server = Server("--workers", "16", folder=MEMORY)
         self.addCleanup(self.server.close)
         self.server.start()
-        for word, value in (("TAKE_SECONDS", 0.5), ("BEAT_SECONDS", 0.2)):
-            patch = mock.patch.object(page_web, word, value)
+        for module, word, value in ((web, "TAKE_SECONDS", 0.5), (doors, "TAKE_SECONDS", 0.5), (streams, "BEAT_SECONDS", 0.2)):
+            patch = mock.patch.object(module, word, value)
             patch.start()
             self.addCleanup(patch.stop)
         fill(self.server.port, 1500, 0)
         self.clients: List[socket.socket] = []
-        self.page = page_web.Page("127.0.0.1", self.server.port, "page", ["127.0.0.1"], "x")
-        self.doors = page_web.Doors(self.page.answer, access_log=None)
+        self.page = web.Page("127.0.0.1", self.server.port, "page", ["127.0.0.1"], "x")
+        self.doors = doors.Doors(self.page.answer, access_log=None)
         self.listener = await asyncio.get_running_loop().create_server(self.doors, "127.0.0.1", 0)
         self.watch = asyncio.ensure_future(self.page.watcher.run())
 
@@ -429,7 +520,7 @@ class Silent(InThisProcess):
         for client in clients:
             client.setblocking(False)
         taken = len(self.doors.connections) + count
-        while len(self.doors.connections) < min(taken, page_web.MAX_CONNECTIONS):
+        while len(self.doors.connections) < min(taken, doors.MAX_CONNECTIONS):
             await asyncio.sleep(0)
         return clients
 
@@ -438,8 +529,8 @@ class Silent(InThisProcess):
         self.assertEqual(await asyncio.wait_for(asyncio.get_running_loop().sock_recv(client, 1), 10), b"")
 
     async def test_after_their_time(self) -> None:
-        self.assertLessEqual(page_web.FIRST_SECONDS, 20)
-        with mock.patch.object(page_web, "FIRST_SECONDS", 1.0):
+        self.assertLessEqual(doors.FIRST_SECONDS, 20)
+        with mock.patch.object(doors, "FIRST_SECONDS", 1.0):
             begun = time.monotonic()
             clients = await self.silent(50)
             for client in clients:
@@ -449,7 +540,7 @@ class Silent(InThisProcess):
 
     async def test_more_than_there_is_room_for(self) -> None:
         """One that is too many is ended at once, and those before it stand."""
-        with mock.patch.object(page_web, "MAX_CONNECTIONS", 50):
+        with mock.patch.object(doors, "MAX_CONNECTIONS", 50):
             await self.silent(50)
             await self.ended((await self.silent(1))[0])
         self.assertEqual(len(self.doors.connections), 50)
@@ -460,6 +551,8 @@ class SlowReaders(InThisProcess):
 
     async def test_of_pages(self) -> None:
         """A page of some hundred kilobytes doesn't fit between the two: its reader is dropped."""
+        with self.server.connect() as client:
+            told(client, b"hello filler\n" + b"checkout r:/p00000/block r:/p00066/block r:/p00132/block r:/p00198/block\n" * 250, 251)
         self.page.watcher.look()
         await self.page.watcher.fresh()
         for _ in range(30):
@@ -476,7 +569,7 @@ class SlowReaders(InThisProcess):
         for number in range(2000):
             for channel in self.page.channels.values():
                 for stream in list(channel.streams):
-                    stream.push(page_web.event({"revision": number, "say": ["x" * 10000]}))
+                    stream.push(streams.event({"revision": number, "say": ["x" * 10000]}))
             await asyncio.sleep(0.001)
             if not self.page.channels:
                 break
@@ -485,8 +578,8 @@ class SlowReaders(InThisProcess):
 
     async def test_of_messages(self) -> None:
         """A limited number of messages wait for a reader. With one more it is dropped."""
-        stream = page_web.Stream()
-        for _ in range(page_web.MAX_WAITING):
+        stream = streams.Stream()
+        for _ in range(streams.MAX_WAITING):
             stream.push(b"x")
         self.assertFalse(stream.over)
         stream.push(b"x")
@@ -519,7 +612,7 @@ class Names(InThisProcess):
             told(client, b"hello anna\nmake /wing\nmake /wing/rib\nnest /wing/rib/web\n", 4)
         await self.page.watcher.learn_place("/wing/rib/web")
         await self.streams(1)
-        self.assertEqual(list(self.page.channels), [page_views.PlaceView("/wing/rib/web")])
+        self.assertEqual(list(self.page.channels), [views.PlaceView("/wing/rib/web")])
         for before in range(5):
             self.connected(f"/.events?see=/wing/rib/web%3Fbefore={before}")
         await self.streams(6)
@@ -527,38 +620,23 @@ class Names(InThisProcess):
 
     async def test_of_a_part_that_is_not_counted_yet(self) -> None:
         """As long as nobody knows how many versions a part has, `before` stays."""
-        model, view = Model(), page_views.PlaceView("/1/2/3/4/5/6/7", 5)
-        for versions, settled in ((None, view), (5, view), (4, page_views.PlaceView(view.path)), (0, page_views.PlaceView(view.path))):
+        model, view = Model(), views.PlaceView("/1/2/3/4/5/6/7", 5)
+        for versions, settled in ((None, view), (5, view), (4, views.PlaceView(view.path)), (0, views.PlaceView(view.path))):
             place = model.add(view.path)
             place.versions, place.counted = versions or 0, versions is not None
             self.assertEqual((versions, view.settled(model)), (versions, settled))
 
 
-class Lanes(unittest.TestCase):
-    """The curves of the queue."""
-
-    def test_curves(self) -> None:
-        claims = [Claim("c1", "anna", None, ("w:/a",)), Claim("c2", "ben", "c1", ("w:/a",)), Claim("c3", "cara", None, ("w:/b",)),
-                  Claim("c4", "dan", "c1", ("r:/a",)), Claim("c5", "eva", "c3", ("w:/b",)), Claim("c6", "fin", "c9", ("w:/c",))]
-        drawn = [[(piece.lane, piece.kind, piece.owner) for piece in row] for row in curves(claims)]
-        self.assertEqual(drawn, [[(0, "first", "anna")], [(0, "middle", "anna")], [(0, "through", "anna"), (1, "first", "cara")],
-                                 [(0, "last", "anna"), (1, "through", "cara")], [(1, "last", "cara")], []])
-
-    def test_more_than_there_is_room_for(self) -> None:
-        """If no lane is free a curve isn't drawn, and no two curves have one lane at once."""
-        claims = [Claim(f"c{number}", "anna", None, (f"w:/p{number}",)) for number in range(20)]
-        claims += [Claim(f"c{100 + number}", "ben", f"c{number}", (f"w:/p{number}",)) for number in range(20)]
-        for row in curves(claims):
-            lanes = [piece.lane for piece in row]
-            self.assertEqual(len(lanes), len(set(lanes)))
-            self.assertLessEqual(len(lanes), 6)
+class Words(unittest.TestCase):
+    """How numbers, names and strangers' texts are written."""
 
     def test_numbers(self) -> None:
         self.assertEqual([in_bytes(size) for size in (0, 1, 999, 1000, 48_000_000, 999_999, 10 ** 17)],
                          ["0 bytes", "1 byte", "999 bytes", "1 kB", "48 MB", "1 MB", "100 PB"])
-        self.assertEqual(page_render.spelled("e\u0301 " + "a\u0301" + "\u0301" * 60 + "\u202e"), "e\u0301 a\u0301\u0301\u0301\u2026\\u202e")
-        self.assertEqual(page_views.as_written("Kolben 80.SLDPRT"), "kolben_80_sldprt")
-        self.assertEqual(page_watch.LINGER_SECONDS, 5.0)
+        self.assertEqual(render.spelled("e\u0301 " + "a\u0301" + "\u0301" * 60 + "\u202e"), "e\u0301 a\u0301\u0301\u0301\u2026\\u202e")
+        self.assertEqual(search.as_written("Kolben 80.SLDPRT"), "kolben_80_sldprt")
+        self.assertEqual([render.initials(name) for name in ("anna", "anna_mueller", "a-b-c", "x", "__", "_li")], ["an", "am", "ab", "x", "__", "li"])
+        self.assertEqual(watch.LINGER_SECONDS, 5.0)
 
 
 if __name__ == "__main__":

@@ -22,14 +22,14 @@ class Away(WithOffice):
         self.server.kill()
         self.shows("#state", "No vault since", 3)
         self.assertRegex(self.words("#pill"), r"^as of \d\d:\d\d$")
-        self.assertIn(f"cara {claim} held", self.words("#line"))
+        self.assertIn("cara 1 held", self.words("main"))
         self.assertEqual(self.browser.value(CHECK), [])
         self.browser.picture(PICTURES / "away-1280.png")
         self.server.start()
         until(lambda: self.words("#pill") == "live" and self.words("#state") == "", 15)
         self.office.sessions.clear()
         self.say("ben", f"checkout w:{PISTON}")
-        self.shows("#line", f"waits behind {claim}")
+        self.shows("#blockers", f"for {claim} of cara")
 
     def test_the_page_goes_away(self) -> None:
         """A page whose own server was started again is right again by itself, also about what happened meanwhile."""
@@ -37,12 +37,16 @@ class Away(WithOffice):
         self.open("/")
         self.page.end()
         until(lambda: "no page server since" in self.words("#pill"), 15)
+        self.assertRegex(self.words("#state"), r"^No page server since \d\d:\d\d: nothing answers at 127.0.0.1:\d+. What stands here was so then.")
+        self.assertEqual(self.browser.value(CHECK), [])
+        self.browser.picture(PICTURES / "away-page-1280.png")
         claim = self.say("cara", f"checkout w:{PISTON}").split()[2]
         self.page = PageServer(self.server.port, "--title", "Plant 1 <machines>", port=self.page.port)
         until(lambda: self.words("#pill") == "live", 30)
-        self.shows("#line", f"cara {claim} held")
+        self.assertEqual(self.words("#state"), "")
+        self.shows("#held", "cara 1 held")
         self.say("ben", f"checkout w:{PISTON}")
-        self.shows("#line", f"waits behind {claim}")
+        self.shows("#blockers", f"for {claim} of cara")
 
     def test_silence(self) -> None:
         """A page that hears nothing any more says when it was right, and not that it is live."""
@@ -104,9 +108,9 @@ class Away(WithOffice):
         until(lambda: tap.heard[-1].sent.endswith(b"quit\n"), 30)
         time.sleep(3)
         self.assertTrue(tap.heard[-1].sent.endswith(b"quit\n"))
-        claim = self.say("cara", f"checkout w:{PISTON}").split()[2]
+        self.say("cara", f"checkout w:{PISTON}")
         driver.switch_to.window(first)
-        until(lambda: f"cara {claim} held" in self.words("#line"), 10)
+        until(lambda: "cara 1 held" in self.words("#held"), 10)
         self.assertRegex(self.browser.value("window.seen"), r"as of \d\d:\d\d")
         self.assertEqual(self.words("#pill"), "live")
 

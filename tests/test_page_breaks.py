@@ -5,6 +5,7 @@ import functools
 import gc
 import html
 import re
+import signal
 import shutil
 import socket
 import threading
@@ -19,9 +20,10 @@ from servers import MEMORY, Answering, Cutter, Server
 from tries import told
 from with_page import PART, WithPage, fill
 
-from vault.card import Card
-from vaultd_tools import page_model, page_watch, page_web
-from vaultd_tools.page_wire import Broken, Wire
+from vault.store.card import Card
+from vaultd_tools.page import model as page_model
+from vaultd_tools.page import watch, web
+from vaultd_tools.page.wire import Broken, Wire
 
 
 class Waiting(Cutter):
@@ -148,7 +150,7 @@ class Breaks(WithPage):
         self.version("anna", "lost.step")
         stream = self.page.stream("/")
         self.assertEqual(self.say("anna", f"checkout w:{PART}"), ["OK held c3"])
-        stream.change('"c3"')
+        stream.change("line:c3")
         self.assertRegex(self.text("/"), r"anna c3 held .* since 20\d\d-")
         until(lambda: "lost.step" in self.text(PART), 5)
         stream.close()
@@ -197,7 +199,7 @@ class Breaks(WithPage):
 
     def test_a_change_between_page_and_stream(self) -> None:
         """A page that is read before a change, and opens its stream before that is sent, is told to read again."""
-        waiting = Waiting(self.server.port, b"show c2\n")
+        waiting = Waiting(self.server.port, b"note c2\n")
         self.addCleanup(waiting.close)
         self.addCleanup(waiting.may_go_on.set)
         self.start_page(waiting.port)
@@ -231,7 +233,7 @@ class Breaks(WithPage):
         fill(self.server.port, 100, 0)
         stream = self.stream("/")
         replies = self.say("ben", *["checkout w:/"] * 200)
-        stream.change('"c201"')
+        stream.change("<b>199</b>")
         self.assertEqual(self.say("ben", *[f"abandon {reply.split()[2]}" for reply in replies]), ["OK abandoned"] * 200)
         stream.change("is done with c201")
         before = len(self.asked())
@@ -253,7 +255,7 @@ class Restarts(unittest.IsolatedAsyncioTestCase):
             lines = ["hello anna", "make /e", "make /e/b", *(f"make {part}" for part in self.parts), "checkout w:/e",
                      *(f"save c1 {part} 00" for part in self.parts), "checkin c1"]
             told(client, "".join(line + "\n" for line in lines).encode(), len(lines))
-        self.watcher = page_web.Page("127.0.0.1", self.server.port, "page", ["127.0.0.1"], "x").watcher
+        self.watcher = web.Page("127.0.0.1", self.server.port, "page", ["127.0.0.1"], "x").watcher
         self.watcher.streams = 1
         watch = asyncio.ensure_future(self.watcher.run())
         self.addAsyncCleanup(self.watcher.close)
@@ -279,20 +281,36 @@ class Restarts(unittest.IsolatedAsyncioTestCase):
         self.assertEqual(len(self.watcher.model.versions), 2)
 
     async def test_notes_of_what_ended(self) -> None:
-        """A question for a note that comes after its claim ended leaves nothing: the more is kept, the more is asked in a turn."""
+        """A claim that ended leaves no question behind: the more is kept, the more is asked in a turn."""
         await self.known("live")
         with self.server.connect() as client:
             told(client, b"hello anna\ncheckout w:/e\nnote c2 00\n", 3)
             await self.known("live", claims=1)
-            await self.watcher._read(["note c2"])
-            self.assertEqual(self.watcher._said["note c2"], b"OK note 00")
+            self.assertEqual(self.watcher._line[-1], b"OK note 00")
             told(client, b"abandon c2\n", 1)
-        for name in ("c1", "c2"):
-            await self.watcher._read([f"note {name}"])
-            self.assertNotIn(f"note {name}", self.watcher._said)
         await self.known("live")
-        await self.watcher._read(["note c2"])
-        self.assertNotIn("note c2", self.watcher._said)
+        self.assertEqual(self.watcher._line, [b"OK claims 0"])
+        self.assertEqual([question for question in self.watcher._said if question.startswith(("note", "show"))], [])
+
+    async def test_whoever_asks_is_gone(self) -> None:
+        """What waits for the connection is asked no more, what was sent is read to its end, and the watch goes on over the same connection."""
+        await self.known("live")
+        assert self.server.process is not None
+        self.server.suspend()
+        try:
+            tasks = [asyncio.ensure_future(self.watcher.learn_versions([(f"/e/b/p{number}", 1)])) for number in range(6) for _ in range(8)]
+            await asyncio.sleep(0.3)
+            for task in tasks:
+                task.cancel()
+            await asyncio.gather(*tasks, return_exceptions=True)
+            await asyncio.sleep(0)
+            self.assertLess(len(asyncio.all_tasks()), 8)
+        finally:
+            self.server.process.send_signal(signal.SIGCONT)
+        session = self.watcher._session
+        await asyncio.sleep(1)
+        await self.known("live")
+        self.assertEqual(self.watcher._session, session)
 
     async def test_just_as_a_connection_is_renewed(self) -> None:
         """Between two connections of which one follows the other, the server was started again: then a hold is another one."""
@@ -344,7 +362,7 @@ class Leaving(unittest.IsolatedAsyncioTestCase):
         """Whoever still reads is told that it is over, and so is whoever waits behind that; no connection is left."""
         silent = Odd({b"fetch": b""})
         self.addCleanup(silent.close)
-        watcher = page_watch.Watcher("127.0.0.1", silent.port, "page", lambda: None, lambda: ())
+        watcher = watch.Watcher("127.0.0.1", silent.port, "page", lambda: None, lambda: ())
         await watcher._connect()
         reads, waits = (asyncio.ensure_future(watcher.ask([question])) for question in ("fetch /e/b/p 1", "claims /"))
         for _ in range(20):         # turns of the loop, within which the first one has asked and reads
@@ -370,7 +388,7 @@ class Leaving(unittest.IsolatedAsyncioTestCase):
         """A turn is over before the watch is, and what became of it is nothing to report."""
         said: List[Dict[str, Any]] = []
         asyncio.get_running_loop().set_exception_handler(lambda _loop, words: said.append(words))
-        watcher = page_watch.Watcher("127.0.0.1", 1, "page", lambda: None, lambda: ())
+        watcher = watch.Watcher("127.0.0.1", 1, "page", lambda: None, lambda: ())
         failed, may_fail = asyncio.Event(), asyncio.Event()
 
         async def fails() -> None:
@@ -395,13 +413,13 @@ class Leaving(unittest.IsolatedAsyncioTestCase):
         """A connection that is made just then is left, too."""
         usual = Odd({b"fetch": b"OK content 00"})
         self.addCleanup(usual.close)
-        watcher = page_watch.Watcher("127.0.0.1", usual.port, "page", lambda: None, lambda: ())
+        watcher = watch.Watcher("127.0.0.1", usual.port, "page", lambda: None, lambda: ())
         await watcher._connect()
         assert watcher._wire is not None
         watcher._wire.lines, watcher._session = 4000, 0
         renews = asyncio.ensure_future(watcher.ask(["fetch /e/b/p 1"]))
-        await asyncio.sleep(0)
-        self.assertIsNone(watcher._wire)
+        while watcher._wire is not None:
+            await asyncio.sleep(0)
         await asyncio.wait_for(watcher.close(), 10)
         self.assertEqual(await renews, [b"OK content 00"])
         self.assertIsNone(watcher._wire)
@@ -469,7 +487,7 @@ class OddServers(unittest.TestCase):
         """Whether a page asks again by itself stands on it as it is."""
         page = PageServer(1)
         self.addCleanup(page.end)
-        for path, asks in (("/", True), ("/engine", True), ("/designers", True), ("/.search?q=e", False), ("/ENGINE", False)):
+        for path, asks in (("/", True), ("/engine", True), ("/designers", True), ("/.search?q=e", True), ("/ENGINE", False)):
             body = page.get(path)[2]
             self.assertEqual((path, "The page asks again by itself." in body, "Load the page again to ask again." in body), (path, asks, not asks))
             self.assertEqual((path, "data-watch" in body or 'http-equiv="refresh" content="10"' in body), (path, asks))

@@ -15,6 +15,7 @@ from with_page import PICTURES, PISTON, WithOffice, fill
 # Answers take half a second, and a test can reach the stream.
 SLOWLY = """
 window.asked = [];
+window.SharedWorker = undefined;
 const get = window.fetch;
 window.fetch = async (...words) => {
   asked.push(words);
@@ -44,16 +45,16 @@ class Live(WithOffice):
             self.open(path)
             where = "main"
             claim = self.say("cara", f"checkout w:{PISTON}").split()[2]
-            self.shows(where, f"cara {claim} held" if path != "/designers" else "cara 1 0 0")
+            self.shows(where, {"/": "cara 1 held", "/designers": "cara 1 0 0"}.get(path, f"cara {claim} held"))
             waits = self.say("ben", "checkout w:/engine").split()[2]
-            self.shows(where, {"/designers": "ben 0 1 0", "/designers/cara": f"ben {waits}"}.get(path, f"ben {waits} waits behind {claim}"))
+            self.shows(where, {"/designers": "ben 0 1 0", "/designers/cara": f"ben {waits}"}.get(path, f"ben {waits} waits to change /engine"))
             self.say("cara", f"give {claim} deniz")
-            self.shows(where, {"/designers": "deniz 1 0 1", "/designers/cara": "has nothing checked out"}.get(path, f"deniz {claim} held"))
+            self.shows(where, {"/designers": "deniz 1 0 1", "/designers/cara": "has nothing checked out"}.get(path, f"deniz {claim} holds"))
             self.browser.picture(PICTURES / f"day-{name}-{width}.png")
             versions = self.say("deniz", f"count {PISTON}").split()[2]
             self.say("deniz", f"save {claim} {PISTON} {self.office.card(PISTON, 'deniz').hex()}")
             self.say("deniz", f"checkin {claim}")
-            self.shows(where, {"/designers": "ben 1 0 0", "/designers/cara": "Nobody."}.get(path, f"ben {waits} held"))
+            self.shows(where, {"/": "ben 1 held", "/designers": "ben 1 0 0", "/designers/cara": "Nobody."}.get(path, f"ben {waits} held"))
             if path == PISTON:
                 self.shows("#versions tr", f"{int(versions) + 1} ", 2.0)
             self.say("ben", f"abandon {waits}")
@@ -74,7 +75,7 @@ class Live(WithOffice):
         self.assertTrue(self.browser.value("document.getElementById('row:/press').parentElement.open"))
         self.browser.value("document.getElementById('row:/engine').click()")
         self.say("cara", "checkout w:/engine/sump/pan")
-        until(lambda: "2 beneath" in self.words("[id='row:/engine']"), 10)
+        until(lambda: "beneath: 1 held, 1 waiting" in self.words("[id='row:/engine']"), 10)
         self.assertFalse(self.browser.value("document.getElementById('row:/engine').parentElement.open"))
         self.assertEqual(self.browser.complaints(), [])
 
@@ -82,6 +83,7 @@ class Live(WithOffice):
         """The first key leads to the content, a slash to the search, and what has the focus keeps it when it changes."""
         self.office.build()
         claim = self.say("cara", f"checkout w:{PISTON}").split()[2]
+        self.say("ben", f"checkout w:{PISTON}")
         self.open("/")
         self.browser.driver.switch_to.active_element.send_keys("\ue004")
         self.assertEqual(self.browser.value("document.activeElement.className"), "skip")
@@ -90,9 +92,9 @@ class Live(WithOffice):
         self.browser.driver.switch_to.active_element.send_keys("crank\ue007")
         until(lambda: "Found for crank" in self.words("h1"), 10)
         self.open("/")
-        self.browser.value(f"document.querySelector('#line a[href=\"{PISTON}\"]').focus()")
+        self.browser.value(f"document.querySelector('#blockers a[href=\"{PISTON}\"]').focus()")
         self.say("cara", f"give {claim} deniz")
-        self.shows("#line", "deniz")
+        self.shows("#blockers", "deniz")
         self.assertEqual(self.browser.value("document.activeElement.getAttribute('href')"), PISTON)
         until(lambda: f"deniz was given {claim} by cara" in self.words("#said"), 5)
 
@@ -102,18 +104,22 @@ class Live(WithOffice):
         first, second, third, fourth = (self.say(name, f"checkout {item}").split()[2] for name, item in (
             ("cara", f"w:{PISTON}"), ("ben", "w:/press"), ("ben", "w:/gripper"), ("deniz", "r:/gripper")))
         self.open("/")
-        self.shows("#line", f"deniz {fourth}")
-        focused = "[document.activeElement.closest('#line > li')?.id, document.activeElement.getAttribute('href')]"
-        self.browser.value(f"document.querySelector('[id=\"line:{third}\"] .designer').focus()")
-        self.browser.value(f"getSelection().selectAllChildren(document.querySelector('[id=\"line:{second}\"] .who .designer'))")
+        self.shows("#blockers", f"deniz {fourth}")
+        focused = "[document.activeElement.closest('[id]')?.id, document.activeElement.getAttribute('href')]"
+        self.browser.value("document.querySelector('[id=\"free:ben\"] summary').click()")
+        self.browser.value(f"document.querySelector('[id=\"line:{second}\"] .designer').focus()")
+        self.browser.value(f"getSelection().selectAllChildren(document.querySelector('[id=\"blockers:{third}\"] > .who .designer'))")
         self.say("cara", f"abandon {first}")
-        until(lambda: self.is_so(f"!document.getElementById('line:{first}')"), 5)
-        self.assertEqual(self.browser.value(focused), [f"line:{third}", "/designers/ben"])
+        until(lambda: self.is_so("!document.getElementById('held:cara')"), 5)
+        self.assertEqual(self.browser.value(focused), [f"line:{second}", "/designers/ben"])
         self.assertEqual(self.browser.value("getSelection().toString()"), "ben")
-        self.browser.value(f"document.querySelector('[id=\"line:{fourth}\"] .path').focus()")
+        self.say("ben", "checkout r:/conveyor")
+        self.shows("[id='held:ben']", "2 held")
+        self.assertTrue(self.is_so("document.getElementById('free:ben').open"))
+        self.browser.value(f"document.querySelector('[id=\"stopped:{third}:{fourth}\"] .path').focus()")
         self.say("deniz", f"give {fourth} eva")
-        self.shows("#line", f"eva {fourth}")
-        self.assertEqual(self.browser.value(focused), [f"line:{fourth}", "/gripper"])
+        self.shows("#blockers", f"eva {fourth}")
+        self.assertEqual(self.browser.value(focused), [f"stopped:{third}:{fourth}", "/gripper"])
         self.assertEqual(self.browser.complaints(), [])
 
     def test_pieces_that_do_not_fit(self) -> None:
@@ -121,16 +127,16 @@ class Live(WithOffice):
         self.office.build()
         first = self.say("cara", f"checkout w:{PISTON}").split()[2]
         self.open("/")
-        self.shows("#line", f"cara {first}")
-        for missing in (f"line:{first}", "line", "tally"):
+        self.shows("#held", "cara 1 held")
+        for missing in ("held:cara", "blockers", "tally"):
             with self.subTest(missing):
                 self.browser.value(f"document.getElementById('{missing}').remove()")
                 claim = self.say("ben", f"checkout w:{PISTON}").split()[2]
-                self.shows("#line", f"ben {claim} waits behind {first}")
-                self.shows("#line", f"cara {first} held")
-                self.assertTrue(self.is_so(f"!!document.getElementById('{missing}')"))
+                self.shows("#blockers", f"ben {claim} waits to change")
+                self.shows("#blockers", f"cara {first} holds")
                 self.say("ben", f"abandon {claim}")
-                until(lambda: self.is_so(f"!document.getElementById('line:{claim}')"), 5)
+                self.shows("#held", "cara 1 held")
+                self.assertTrue(self.is_so(f"!!document.getElementById('{missing}')"))
         self.assertEqual(self.browser.complaints(), [])
 
     def test_again_while_it_reads(self) -> None:
@@ -190,8 +196,8 @@ class Quick(unittest.TestCase):
             metrics = {each["name"]: each["value"] for each in browser.driver.execute_cdp_cmd("Performance.getMetrics", {})["metrics"]}
             painted.append(browser.value("performance.getEntriesByName('first-contentful-paint')[0].startTime"))
             taken.append(after - before + metrics["TaskDuration"])
-            self.assertEqual(browser.value("[document.querySelectorAll('#line > li').length, document.querySelectorAll('.tree .row').length]"),
-                             [256, 4095])
+            self.assertEqual(browser.value("[document.querySelectorAll('.claim').length, document.querySelectorAll('.tree .row').length]"),
+                             [256, 63])
             self.assertEqual(browser.complaints(), [])
             browser.picture(PICTURES / "full-1280.png")
             browser.driver.execute_cdp_cmd("Performance.disable", {})

@@ -64,7 +64,7 @@ class Streams(WithPage):
         stream = self.stream("/")
         self.assertRegex(self.text("/"), r"c2 held .* since before 20")
         self.anna.checkout(["r:" + PART])
-        stream.change('"c3"')
+        stream.change("line:c3")
         self.assertRegex(self.text("/"), r"c3 held .* since 20\d\d-")
 
     def test_the_server_is_away(self) -> None:
@@ -87,7 +87,7 @@ class Streams(WithPage):
         back = stream.next(lambda kind, data: kind == "message" and "led live" in data["texts"].get("pill", ""), 15)[1]
         self.assertEqual(back["texts"]["state"].strip(), "")
         self.ben.checkout(["r:/"])
-        stream.change('"c3"')
+        stream.change("stopped:c2:c3")
 
 
 class FullVault(unittest.TestCase):

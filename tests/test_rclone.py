@@ -3,6 +3,7 @@
 import contextlib
 import io
 import os
+import shutil
 import socket
 import subprocess
 import tempfile
@@ -11,7 +12,7 @@ import time
 import unittest
 from concurrent.futures import ThreadPoolExecutor
 from pathlib import Path
-from typing import List
+from typing import Any, Callable, List
 from unittest import mock
 
 from page_server import until
@@ -19,11 +20,13 @@ from servers import free_port
 from stepping import Stepper
 from stores import PART, ROD, WithStore
 
-from vault import Client, Misused, VaultError
-from vault.parts import Parts
-from vault.rclone_store import TOUCHED
-from vault.store import MARK_NAME, Kept, StoreAway, StoreFault
-from vaultd_tools.sweep import Swept
+from vault import Client, MisusedError, RefusedError, VaultError
+from vault.store.base import MARK_NAME, Kept, StoreAwayError, StoreFaultError, place_of
+from vault.store.card import read_card
+from vault.store.checking import check_store
+from vault.store.parts import Parts
+from vault.store.rclone_store import TOUCHED, RcloneStore
+from vaultd_tools.files.sweep import ASIDE, REMOVED, Swept
 
 SECRET = "secret"
 
@@ -111,7 +114,8 @@ class Shared:
             kept = list(store.all())
             self.assertEqual([each.sha256 for each in kept], [card.sha256])
             self.assertLess(time.time() - kept[0].since, 60)
-            self.assertFalse(store.remove(kept[0], time.time() - 60))
+            self.assertFalse(store.set_aside(kept[0], time.time() - 60))
+            self.assertEqual(self.entries(), [card.sha256])
 
         def test_swept_right_behind(self) -> None:
             self.check_swept_right_behind()
@@ -122,13 +126,13 @@ class Shared:
             whole = path.read_bytes()
             for bad in (whole[:-1], b"x" + whole[1:]):
                 path.write_bytes(bad)
-                with self.assertRaises(StoreFault) as refused:
+                with self.assertRaises(StoreFaultError) as refused:
                     self.parts.write_new(self.parts.get(PART), back)
                 self.assertIn(f"version 1 of {PART}", str(refused.exception))
                 self.assertIn("damaged bytes", self.refused())
                 self.assertEqual((path.read_bytes(), back.exists()), (bad, False))
             path.unlink()
-            with self.assertRaises(StoreFault):
+            with self.assertRaises(StoreFaultError):
                 self.parts.write_new(self.parts.get(PART), back)
 
         def test_away(self) -> None:
@@ -136,7 +140,7 @@ class Shared:
             self.put_version()
             self.remote.stop()
             self.assertIn("rclone says", self.refused())
-            with self.assertRaises(StoreAway):
+            with self.assertRaises(StoreAwayError):
                 self.parts.write_new(self.parts.get(PART), self.root / "back")
             self.remote.start()
             self.store.rename(self.remote.data / "elsewhere")
@@ -219,8 +223,48 @@ class Shared:
             self.assertEqual((self.names_what_is_there(), self.names_what_is_there(ROD)), (3, 3))
             self.assertEqual((len(self.entries()), self.entries("incoming")), (3, []))
 
+        def test_lacking(self) -> None:
+            """One run of rclone says which of some bytes aren't there, or are of another size; a check-in puts these again, or is refused."""
+            card, store = self.put_version(), self.parts.setting.store()
+            assert isinstance(store, RcloneStore)
+            kept = [Kept(card.sha256, card.size, 0), Kept(card.sha256, card.size + 1, 0), Kept("0" * 64, 1, 0)]
+            self.assertEqual(store.lacking(kept), kept[1:])
+            with mock.patch.object(store, "find") as asked:
+                self.assertEqual(store.lacking(kept[:1]), [])
+            asked.assert_not_called()
+            self.fill(b"bore 82")
+            claim = self.put()
+            draft = read_card(self.anna.draft(claim, PART))
+            assert draft is not None
+            self.path_of(draft).unlink()
+            self.assertEqual(self.parts.checkin(claim), 1)
+            self.names_what_is_there()
+            self.fill(b"bore 83")
+            claim = self.put()
+            draft = read_card(self.anna.draft(claim, PART))
+            assert draft is not None
+            self.path_of(draft).unlink()
+            self.file.unlink()
+            with self.assertRaisesRegex(RefusedError, f"lacks the bytes of {PART}"):
+                self.parts.checkin(claim)
+
+        def test_a_remote_that_sends_without_end(self) -> None:
+            """What it sends beyond the size that the card says isn't taken, and what rclone says meanwhile is read, however much that is."""
+            self.put_version()
+            real = shutil.which("rclone")
+            (self.root / "bin").mkdir()
+            endless = self.root / "bin/rclone"
+            endless.write_text('#!/bin/sh\ncase "$1 $*" in "cat "*sha256/*) head -c 1000000 /dev/zero | tr "\\0" e >&2; exec yes;; esac\n'
+                               f'exec {real} "$@"\n')
+            endless.chmod(0o755)
+            back = self.root / "back"
+            with mock.patch.dict(os.environ, {"PATH": f"{self.root}/bin:{os.environ['PATH']}"}), self.assertRaises(StoreFaultError) as refused:
+                self.another().write_new(self.parts.get(PART), back)
+            self.assertIn("they are more than", str(refused.exception))
+            self.assertFalse(back.exists())
+
         def test_swept(self) -> None:
-            """What is old is removed, and what a killed client left; what is young stays."""
+            """What is old is set aside and then removed, and what a killed client left is removed; what is young stays."""
             old, store = self.put_version(), self.parts.setting.store()
             assert store is not None
             os.utime(self.path_of(old), (1000, 1000))
@@ -229,9 +273,67 @@ class Shared:
             (self.store / "incoming").mkdir(exist_ok=True)
             (self.store / "incoming" / "left").write_bytes(b"x")
             os.utime(self.store / "incoming" / "left", (1000, 1000))
-            removed = [kept.sha256 for kept in list(store.all()) if store.remove(kept, 2000.0)]
-            self.assertEqual((removed, store.leftovers(2000.0)), ([old.sha256], 1))
-            self.assertEqual((self.entries(), self.entries("incoming")), ([young.sha256], []))
+            aside = [kept.sha256 for kept in list(store.all()) if store.set_aside(kept, 2000.0)]
+            self.assertEqual((aside, store.leftovers(2000.0)), ([old.sha256], 1))
+            self.assertEqual((self.entries(), self.entries("incoming"), self.entries("going")), ([young.sha256], [], [old.sha256]))
+            self.assertEqual([kept.sha256 for kept in store.going() if store.remove(kept)], [old.sha256])
+            self.assertEqual((self.entries("going"), list(store.going()), store.remove(Kept(old.sha256, 1, 0.0))), ([], [], False))
+
+        def test_brought_back(self) -> None:
+            """What a sweep set aside comes back for whoever finds or puts it; a version whose bytes lie there is whole."""
+            card, store = self.put_version(), self.parts.setting.store()
+            assert store is not None
+            back = self.root / "back"
+            wants: List[Callable[[], object]] = [lambda: self.another().write_new(self.parts.get(PART, 1), back), self.put_version,
+                                                 lambda: self.assertEqual(check_store(self.parts, False).bad, [])]
+            for want in wants:
+                (self.store / "going").mkdir(exist_ok=True)
+                self.path_of(card).rename(self.store / "going" / card.sha256)
+                want()
+                self.assertEqual((self.entries(), self.entries("going")), ([card.sha256], []))
+                self.assertLess(time.time() - next(iter(store.all())).since, 60)
+            self.assertEqual(self.names_what_is_there(), 2)
+
+        def old_version(self) -> Kept:
+            """A version whose bytes are old, as the store has them."""
+            card = self.put_version()
+            os.utime(self.path_of(card), (1000, 1000))
+            return Kept(card.sha256, card.size, 1000.0)
+
+        def other_store(self) -> RcloneStore:
+            """The store once more, as a sweep has it."""
+            store = self.another().setting.store()
+            assert isinstance(store, RcloneStore)
+            return store
+
+        def test_put_before_the_move(self) -> None:
+            """Bytes that are put between a sweep's look at their age and its move are moved back."""
+            kept, store, run = self.old_version(), self.other_store(), RcloneStore._run
+            claim = self.anna.checkout(["w:" + PART]).claim
+
+            def moves(asked: RcloneStore, *words: str, **more: Any) -> Any:
+                if words[0] == "moveto" and asked is store and words[-1].endswith(f"going/{kept.sha256}"):
+                    self.parts.put(PART, self.file, claim)
+                return run(asked, *words, **more)
+
+            with mock.patch.object(RcloneStore, "_run", moves):
+                self.assertFalse(store.set_aside(kept, 2000.0))
+            self.assertEqual((self.anna.checkin(claim), self.entries(), self.entries("going")), (1, [kept.sha256], []))
+
+        def test_moved_while_a_put_reads(self) -> None:
+            """Bytes that a sweep moves right before a put reads them through are put anew."""
+            kept, store, words = self.old_version(), self.other_store(), RcloneStore._words
+            claim = self.anna.checkout(["w:" + PART]).claim
+
+            def reads(asked: RcloneStore, *given: str) -> List[str]:
+                if given[0] == "cat" and given[-1].endswith(place_of(kept.sha256)) and not self.entries("going"):
+                    self.assertTrue(store.set_aside(kept, 2000.0))
+                return words(asked, *given)
+
+            with mock.patch.object(RcloneStore, "_words", reads):
+                self.parts.put(PART, self.file, claim)
+            self.assertEqual((self.anna.checkin(claim), self.entries(), self.entries("going")), (1, [kept.sha256], [kept.sha256]))
+            self.assertEqual(self.names_what_is_there(), 2)
 
         def test_sweep_of_a_remote_that_is_away(self) -> None:
             """If the remote goes away, a sweep doesn't try every file."""
@@ -239,8 +341,9 @@ class Shared:
             assert store is not None
             self.remote.stop()
             with contextlib.redirect_stderr(io.StringIO()) as said:
-                swept.remove(store, [Kept(f"{number:064x}", 1, 1000.0) for number in range(9)], 2000.0)
-            self.assertEqual((swept.gone, swept.refused, said.getvalue().count(" stays: ")), ([], 3, 3))
+                for what, do in ((ASIDE, lambda kept: store.set_aside(kept, 2000.0)), (REMOVED, store.remove)):
+                    swept.each(what, [Kept(f"{number:064x}", 1, 1000.0) for number in range(9)], do)
+            self.assertEqual((swept.done[ASIDE], swept.refused, said.getvalue().count(" stays: ")), ([], 3, 3))
 
 
 class WebDav(Shared.OverRclone):
@@ -265,12 +368,12 @@ class Refused(WithStore):
         self.enterContext(mock.patch.dict(os.environ, {"RCLONE_CONFIG": str(config)}))
 
     def test_no_remote(self) -> None:
-        with self.assertRaises(StoreAway) as refused:
+        with self.assertRaises(StoreAwayError) as refused:
             self.parts.setting.set("rclone:office:vault")
         self.assertIn("rclone lsd office:", str(refused.exception))
 
     def test_no_rclone(self) -> None:
-        with mock.patch.dict(os.environ, {"PATH": str(self.root)}), self.assertRaises(Misused) as refused:
+        with mock.patch.dict(os.environ, {"PATH": str(self.root)}), self.assertRaises(MisusedError) as refused:
             self.parts.setting.set("rclone:office:vault")
         self.assertIn("Install it", str(refused.exception))
 
@@ -279,7 +382,7 @@ class Refused(WithStore):
         evil = self.root / "evil"
         names: List[str] = [f"rclone:sftp,ssh='touch {evil}':x", f"rclone::sftp,ssh='touch {evil}':x", "rclone:--config=/x:y", "rclone:-vv:y"]
         for name in names:
-            with self.assertRaises(Misused):
+            with self.assertRaises(MisusedError):
                 self.parts.setting.set(name)
         self.assertFalse(evil.exists())
 

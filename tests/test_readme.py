@@ -6,6 +6,9 @@ program stands in for it.
 
 import os
 import re
+import signal
+import socket
+import subprocess
 import tempfile
 import unittest
 from pathlib import Path
@@ -60,6 +63,30 @@ class Readme(unittest.TestCase):
     def test_proved(self) -> None:
         self.assertIn(PROVES, [line for _, line, _ in BLOCKS[1]])
         self.run_block(1, "(cd crates/vaultd && rt run")
+
+
+class TryIt(unittest.TestCase):
+    """`tools/try-it` where no server can listen."""
+
+    def said(self, *words: str) -> "subprocess.CompletedProcess[str]":
+        """What it says of these words, with the tested program."""
+        return subprocess.run([str(TOP / "tools" / "try-it"), *words], env={**os.environ, "VAULTD": VAULTD}, stdin=subprocess.DEVNULL, text=True,
+                              capture_output=True, timeout=60, check=False)
+
+    def test_leaves_nothing(self) -> None:
+        """At a port that is taken, at one that there can't be, and at another machine's address it says so, and makes nothing."""
+        with tempfile.TemporaryDirectory(prefix="vault-test-") as folder:
+            new = Path(folder) / "new"
+            with socket.create_server(("127.0.0.1", free_port())) as taken:
+                port = taken.getsockname()[1]
+                for address, reason in ((f"127.0.0.1:{port}", "Address already in use"), ("127.0.0.1:70000", "0-65535"),
+                                        ("127.0.0.1", "invalid literal"), ("192.0.2.1:7070", "Cannot assign requested address")):
+                    done = self.said(str(new), address)
+                    self.assertEqual((done.returncode, done.stdout, new.exists()), (1, "", False), done.stderr)
+                    self.assertRegex(done.stderr, f"^try-it: no server can listen at {address}: .*{reason}.*Nothing was made. Name another address")
+            done = self.said(str(new), f"127.0.0.1:{port}")
+            self.assertEqual(done.returncode, 0, done.stderr)
+            os.kill(int((new / "pid").read_text("ascii")), signal.SIGTERM)
 
 
 if __name__ == "__main__":

@@ -12,9 +12,10 @@ import test_tutorial
 from doors import Door, make_key
 from servers import MEMORY, TOP, Cutter, Server, free_port
 
-from vault import Client, Misused, NotKnown
-from vault.session import read_address
-from vault.transport import GATE, Address, SshStream, refusal, ssh_words
+from vault import Client, MisusedError, NotKnownError
+from vault.protocol.address import read_address
+from vault.protocol.address import Address
+from vault.protocol.transport import GATE, SshStream, refusal, ssh_words
 
 GOOD: Dict[str, Tuple[Address, ...]] = {
     "anna@ssh:vault.example.org": (("ssh:vault.example.org", 0),),
@@ -36,7 +37,7 @@ BAD = ("anna@ssh:", "anna@ssh:-oProxyCommand=true", "anna@ssh:-oProxyCommand=tru
        "anna@one:7070,ssh:-oProxyCommand=true", "anna@one:7070,anna@two:7070", "anna@" + ",".join(f"one:{port}" for port in range(1, 10)))
 
 # What the page has of check-ins and gifts, and what the log has of those that were done. A store is set by a check-in, too.
-GIVEN = re.compile(r"vault (?:--patience 0 )?(checkin|give|store set) ")
+GIVEN = re.compile(r"vault (?:--patience 0 )?(checkin|give|store set|import) ")
 DONE = re.compile(r" by=([a-z]+) .* told (checkin|give) .* -> OK ")
 
 
@@ -49,7 +50,7 @@ class Addresses(unittest.TestCase):
 
     def test_bad(self) -> None:
         for word in BAD:
-            with self.subTest(word), self.assertRaises(Misused):
+            with self.subTest(word), self.assertRaises(MisusedError):
                 read_address(word)
 
     def test_who_refuses(self) -> None:
@@ -197,7 +198,7 @@ class ThroughTheDoor(unittest.TestCase):
         text = kept.read_text("ascii")
         self.cutter.meanwhile = lambda: forget_all(kept)
         self.cutter.after.append(b"make")
-        with self.assertRaises(NotKnown):
+        with self.assertRaises(NotKnownError):
             client.make("/wing")
         kept.write_text(text, "ascii")
         client.make("/tail")
@@ -232,8 +233,8 @@ class Day(test_tutorial.Pages):
         page = test_tutorial.steps((TOP / "docs" / "TUTORIAL.md").read_text("utf-8"))
         said = [(who, GIVEN.match(line), shown) for who, line, shown in page]
         done = [DONE.search(line) for line in self.door.logged()]
-        wanted = [(who, match[1].replace("store set", "checkin")) for who, match, shown in said
-                  if match and not shown[0].startswith("vault: ")]
+        wanted = [(who, match[1] if match[1] == "give" else "checkin") for who, match, shown in said
+                  if match and not shown[0].startswith("vault: In the way") and not shown[0].startswith("vault: No server")]
         self.assertEqual([(found[1], found[2]) for found in done if found], wanted)
 
     test_scale = None  # type: ignore[assignment]    # no designer comes through a gate there

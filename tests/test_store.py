@@ -18,11 +18,11 @@ from servers import PACKAGES, Limits, free_port, program
 from stepping import Stepper
 from stores import MARK, MARK_NAME, NAME, PART, ROD, WithStore
 
-from vault import Client, Misused, Refused, Unreachable, VaultError
-from vault.card import Card, now
-from vault.parts import Parts
-from vault.setting import STORE_PLACE
-from vault.store import StoreAway, StoreFault, place_of
+from vault import Client, MisusedError, RefusedError, UnreachableError, VaultError
+from vault.store.card import Card, now
+from vault.store.parts import Parts
+from vault.store.setting import STORE_PLACE
+from vault.store.base import StoreAwayError, StoreFaultError, place_of
 
 
 class PutAndGet(WithStore):
@@ -43,7 +43,7 @@ class PutAndGet(WithStore):
         back = self.root / "back"
         self.another().write_new(version, back)
         self.assertEqual(back.read_bytes(), content)
-        with self.assertRaises(Misused):
+        with self.assertRaises(MisusedError):
             self.parts.write_new(version, back)
 
     def test_a_note_on_anothers_draft(self) -> None:
@@ -120,7 +120,7 @@ class PutAndGet(WithStore):
         def meter(_what: str, _size: int) -> "Changing":
             return Changing(self.file)
 
-        with self.assertRaises(Misused) as changed:
+        with self.assertRaises(MisusedError) as changed:
             Parts(self.anna, meter=meter).put(PART, self.file, claim)
         self.assertIn("was changed while it was read", str(changed.exception))
         self.assertEqual(self.anna.kept_drafts(claim), {})
@@ -132,9 +132,9 @@ class PutAndGet(WithStore):
         os.mkfifo(self.root / "pipe")
         (self.root / "odd\nname").write_bytes(b"x")
         for path in (self.root, self.root / "none", self.root / "pipe", Path("/dev/null"), self.root / "odd\nname"):
-            with self.assertRaises(Misused, msg=str(path)):
+            with self.assertRaises(MisusedError, msg=str(path)):
                 self.parts.put(PART, path, claim)
-        with self.assertRaises(Misused):
+        with self.assertRaises(MisusedError):
             self.parts.put(STORE_PLACE, self.file)
 
     def test_refused_before_anything_is_sent(self) -> None:
@@ -200,12 +200,12 @@ class NoStore(WithStore):
         self.assertEqual(self.anna.kept_drafts(claim), {PART: b"bore 80"})
         for content in (b"x" * 1025, card.spell()):
             self.file.write_bytes(content)
-            with self.assertRaises(Misused) as refused:
+            with self.assertRaises(MisusedError) as refused:
                 self.plain.put(PART, self.file)
             self.assertIn("vault store set", str(refused.exception))
-        with self.assertRaises(Misused):
+        with self.assertRaises(MisusedError):
             self.plain.set_note(claim, "larger bore")
-        with self.assertRaises(StoreFault):
+        with self.assertRaises(StoreFaultError):
             self.plain.write_new(self.plain.get(PART), self.root / "back")
 
     def test_not_confirmed(self) -> None:
@@ -215,15 +215,15 @@ class NoStore(WithStore):
         claim = ben.client.checkout(["w:" + PART]).claim
         steps: List[Callable[[], object]] = [lambda: ben.put(PART, self.file, claim), lambda: ben.write_new(ben.get(PART), self.root / "back")]
         for step in steps:
-            with self.assertRaises(Refused) as refused:
+            with self.assertRaises(RefusedError) as refused:
                 step()
             self.assertIn(f"vault store confirm {self.address()}", str(refused.exception))
-        with self.assertRaises(Misused):
+        with self.assertRaises(MisusedError):
             ben.setting.confirm("file:///srv/other")
         ben.setting.confirm(self.address())
         ben.write_new(ben.get(PART), self.root / "back")
         self.name(f"file://{self.root}/evil\n".encode())
-        with self.assertRaises(Refused):
+        with self.assertRaises(RefusedError):
             Parts(ben.client).put(PART, self.file, claim)
         self.assertFalse((self.root / "evil").exists())
 
@@ -233,7 +233,7 @@ class NoStore(WithStore):
         for content in (b"\xff\n", b"rclone:a,b=c:d\n", b"file://evil/x\n", b"\x1b[2J", b"x" * 1024, self.address().encode() + b"\n\n"):
             self.name(content)
             self.assertTrue(self.vault("store").decode().rstrip("\n").isprintable())
-            with self.assertRaises(Refused):
+            with self.assertRaises(RefusedError):
                 Parts(self.anna).put(PART, self.file, self.anna.checkout(["w:" + PART]).claim)
 
     def test_set(self) -> None:
@@ -249,7 +249,7 @@ class NoStore(WithStore):
         other.joinpath("file").unlink()
         self.assertEqual(self.parts.setting.set(f"file://{other}"), self.address())
         self.client("ben").checkout(["w:" + STORE_PLACE])
-        with self.assertRaises(Refused):
+        with self.assertRaises(RefusedError):
             self.parts.setting.set(self.address())
 
 
@@ -259,7 +259,7 @@ class SetAgain(WithStore):
     def test_stopped_before_the_check_in(self) -> None:
         """The check-out of the earlier try is gone on with; one of a try that was refused is given up."""
         other = f"file://{self.root}/other"
-        for error, stand in ((Unreachable("No server answers."), 1), (KeyboardInterrupt(), 1), (Refused("A limit."), 0)):
+        for error, stand in ((UnreachableError("No server answers."), 1), (KeyboardInterrupt(), 1), (RefusedError("A limit."), 0)):
             for step in ("put", "checkin"):
                 with mock.patch.object(self.anna, step, side_effect=error), self.assertRaises(type(error)):
                     self.parts.setting.set(other)
@@ -295,7 +295,7 @@ class SetAgain(WithStore):
         other, full = self.root / "other", self.root / "full"
         other.mkdir()
         (other / MARK_NAME).write_bytes(b"x")
-        with self.assertRaises(Misused):
+        with self.assertRaises(MisusedError):
             self.parts.setting.set(f"file://{other}")
         self.vault("hello", f"anna@127.0.0.1:{self.server.port}")
         self.vault("store", "set", f"file://{full}", status=1, limits=Limits(file_bytes=4))
@@ -329,12 +329,12 @@ class Faults(WithStore):
         self.put_version()
         self.store.rename(self.root / "unmounted")
         self.store.mkdir()
-        self.refused(StoreAway, "Mount its disk")
-        with self.assertRaises(StoreAway):
+        self.refused(StoreAwayError, "Mount its disk")
+        with self.assertRaises(StoreAwayError):
             self.parts.write_new(self.parts.get(PART), self.root / "back")
         self.assertEqual(list(self.store.iterdir()), [])
         self.store.rmdir()
-        self.refused(StoreAway, "Mount its disk")
+        self.refused(StoreAwayError, "Mount its disk")
         (self.root / "unmounted").rename(self.store)
         self.put_version()
 
@@ -374,16 +374,16 @@ class Faults(WithStore):
         for bad in (whole[:-1], whole + b"x", b"x" + whole[1:], b""):
             path.chmod(0o600)
             path.write_bytes(bad)
-            with self.assertRaises(StoreFault) as refused:
+            with self.assertRaises(StoreFaultError) as refused:
                 self.parts.write_new(self.parts.get(PART), back)
             for word in (f"version 1 of {PART}", self.address(), card.sha256, "was not written"):
                 self.assertIn(word, str(refused.exception))
-            self.refused(StoreFault, "damaged bytes", card.sha256)
+            self.refused(StoreFaultError, "damaged bytes", card.sha256)
             self.assertEqual((path.read_bytes(), back.exists()), (bad, False))
         self.as_program()
         self.assertIn(b"Standard output, by way of", self.vault("get", PART, status=1))
         path.unlink()
-        with self.assertRaises(StoreFault):
+        with self.assertRaises(StoreFaultError):
             self.parts.write_new(self.parts.get(PART), back)
         self.put_version()
         self.assertEqual(path.read_bytes(), whole)
@@ -395,13 +395,13 @@ class Faults(WithStore):
         path = self.path_of(card)
         path.unlink()
         path.mkdir()
-        self.refused(StoreFault)
+        self.refused(StoreFaultError)
         path.rmdir()
         os.mkfifo(path)
-        self.refused(StoreFault, "damaged bytes")
+        self.refused(StoreFaultError, "damaged bytes")
         path.unlink()
         path.symlink_to("/etc/passwd")
-        with self.assertRaises(StoreFault):
+        with self.assertRaises(StoreFaultError):
             self.parts.write_new(self.parts.get(PART), self.root / "back")
 
 
@@ -424,7 +424,7 @@ class ByHand(WithStore):
         cases: List[Dict[str, Any]] = [{"size": 1}, {"size": 10 ** 17}, {"sha256": "0" * 64}, {"sha256": other.sha256, "size": other.size + 1}]
         for wrong in cases:
             self.card(**wrong)
-            with self.assertRaises(StoreFault):
+            with self.assertRaises(StoreFaultError):
                 self.parts.write_new(self.parts.get(PART), self.root / "back")
             self.assertFalse((self.root / "back").exists())
 
@@ -506,7 +506,7 @@ class Together(WithStore):
         impatient = Parts(self.client("anna", patience=0.2), meter=lambda _what, _size: Meanwhile(self.server.kill))
         claim = self.anna.checkout(["w:" + PART]).claim
         self.anna.close()
-        with self.assertRaises(Unreachable):
+        with self.assertRaises(UnreachableError):
             impatient.put(PART, self.file, claim)
         self.server.start()
         self.assertEqual(self.anna.kept_drafts(claim), {})
@@ -560,7 +560,8 @@ class Program(WithStore):
         content = self.fill(b"bore 80", 3_000_000)
         self.as_program()
         self.assertEqual(self.as_json("store"), {"command": "store", "done": True, "sentence": f"The vault keeps its files at {self.address()},"
-                                                 " and you follow it.", "store": self.address(), "confirmed": self.address(), "notices": []})
+                                                 " and you follow it.", "store": self.address(), "confirmed": self.address(), "here": None,
+                                                 "notices": []})
         self.vault("checkout", "w:" + PART)
         self.assertEqual(self.as_json("put", PART, str(self.file))["bytes"], len(content))
         kept = self.root / "kept"
@@ -601,7 +602,7 @@ class Program(WithStore):
 
     def on_a_terminal(self, *words: str) -> str:
         """Runs the program on a terminal, and has it show progress however quick the work is."""
-        start = "import vault.output; vault.output.METER_SECONDS = 0.0; from vault.program import main; raise SystemExit(main())"
+        start = "import vault.cli.output; vault.cli.output.METER_SECONDS = 0.0; from vault.cli.program import main; raise SystemExit(main())"
         path = os.pathsep.join(str(package / "src") for package in PACKAGES)
         terminal, other = pty.openpty()
         done = subprocess.Popen([sys.executable, "-c", start, *words], stdin=other, stdout=other, stderr=other,

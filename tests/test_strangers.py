@@ -16,7 +16,7 @@ from probes import ENDED, OTHERS
 from servers import MEMORY, TOP, VAULTD, Heard, Server, Tap
 from tries import heard, told
 
-from vault import Client, Unreachable
+from vault import Client, UnreachableError
 
 LINES = b"hello anna\nabandon c1\nquit\n"
 TLS = b"\x16"
@@ -436,7 +436,7 @@ class NoPlace(unittest.TestCase):
 
     def test_client_gives_up(self) -> None:
         """Its patience ends with a sentence that says what to do, and the status of a server that can't be reached."""
-        with self.assertRaises(Unreachable) as full:
+        with self.assertRaises(UnreachableError) as full:
             self.ben(0).make("/wing")
         self.assertIn("is full at this moment", str(full.exception))
         self.assertIn("Ask whoever runs it", str(full.exception))

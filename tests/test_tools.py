@@ -25,7 +25,9 @@ from page_server import until
 from servers import MEMORY, TOP, VAULTD, Server, program
 
 from vault import Client
-from vaultd_tools import backup, board, files, page_line
+from vaultd_tools import board, files
+from vaultd_tools.files import backup
+from vaultd_tools.page import line as page_line
 
 VOID = {"meta"}
 
@@ -450,9 +452,10 @@ class Board(WithVault):
         self.assertIn("<h1>Plant &lt;1&gt;</h1>", page)
         self.assertIn("1 held, 2 waiting; whoever waits for most waits for 2.", page)
         self.assertEqual(self.claims(page), [
-            f"ananna c1 held change {PART} 2 wait for it",
-            "beben c2 waits behind c1 (anna) look at /engine look at /engine/block 1 to go before it 1 waits for it",
-            "ananna c3 waits behind c1 (anna) change / 2 to go before it"])
+            f"ananna c1 held change {PART} (contested) 2 wait for it",
+            "beben c2 waits for c1 (anna) look at /engine (contested) look at /engine/block (contested) 1 to go before it 1 waits for it",
+            "ananna c3 waits for c1 (anna) change / (contested) 2 to go before it"])
+        self.assertIn("1 claim keeps 2 waiting", page)
 
     def test_as_the_server_says(self) -> None:
         """Each claim waits behind the first before it that overlaps it, which the page works out for itself."""
@@ -464,14 +467,15 @@ class Board(WithVault):
             self.anna.checkout([moments.choice("rrw") + ":" + moments.choice(places) for _ in range(moments.randint(1, 3))])
         report = board.report_of(VAULTD, *self.server.files, 5)
         claims, parser = report.claims(), Balanced()
+        before = page_line.before(page_line.direct(claims))
         page = board.page(report, "61 claims")
         parser.feed(page)
         self.assertEqual((parser.wrong, len(self.claims(page))), ([], 61))
         for number, claim in enumerate(claims):
-            overlapping = [place for place in range(number) if page_line.overlap(claims[place], claim)]
+            overlapping = [place for place in range(number) if page_line.meeting(claims[place], claim)]
             self.assertEqual(claims[overlapping[0]].name if overlapping else None, claim.behind, claim.name)
-            waits_for = set(overlapping).union(*(page_line.numbers(page_line.before(claims)[place]) for place in overlapping))
-            self.assertEqual(set(page_line.numbers(page_line.before(claims)[number])), waits_for, claim.name)
+            waits_for = set(overlapping).union(*(page_line.numbers(before[place]) for place in overlapping))
+            self.assertEqual(set(page_line.numbers(before[number])), waits_for, claim.name)
 
     def test_a_note(self) -> None:
         """A note of the report is shown as text, and is no item; what turns the direction of writing is shown escaped."""

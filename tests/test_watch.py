@@ -18,7 +18,7 @@ from test_tools import WithVault, damage, gates
 from tries import told
 
 from vault import Client
-from vaultd_tools.asking import PATIENCE
+from vaultd_tools.watch.asking import PATIENCE
 
 
 class Watch(WithVault):

@@ -13,23 +13,27 @@ import threading
 import time
 import unittest
 from concurrent.futures import ThreadPoolExecutor
+from designers import PART, WithServer
+from page_server import until
 from pathlib import Path
+from servers import MEMORY, VAULTD, Cutter, program
+from stores import WithStore
 from typing import Callable, List, Optional, Set, Tuple, Type
 from unittest import mock
 
-from designers import PART, WithServer
-from page_server import until
-from servers import MEMORY, VAULTD, Cutter, program
-from stores import WithStore
-
-from vault import Client, Misused, Refused, VaultError, claim_commands
-from vault.claim_commands import mine_line
-from vault.command_line import command_line
-from vault.line import chain, meeting, ring
-from vault.memory import KNOWN, Known
-from vault.output import Output
-from vault.setting import STORE_PLACE
-from vault.words import CLAIM, Holder, NotUnderstood, Reply, Standing, holder_in, listed_in
+from vault import Client, MisusedError, RefusedError, VaultError
+from vault.cli import claim_commands
+from vault.cli.claim_commands import mine_line
+from vault.cli.command_line import command_line
+from vault.cli.output import Output
+from vault.cli.words import WaitWords
+from vault.client.memory import KNOWN, Known
+from vault.errors import NotUnderstoodError
+from vault.protocol.grammar import CLAIM
+from vault.protocol.queue import chain, meeting, ring
+from vault.protocol.replies import Reply, holder_in, listed_in
+from vault.protocol.standing import Holder, Standing
+from vault.store.setting import STORE_PLACE
 
 ROD = "/engine/block/rod"
 
@@ -256,7 +260,7 @@ class InTheWay(WithDesigners):
     def test_own_hold(self) -> None:
         """No place can be made in a hold's name."""
         self.anna.hold(["w:/engine/block"])
-        with self.assertRaises(Refused) as refused:
+        with self.assertRaises(RefusedError) as refused:
             self.client("anna").make("/engine/block/pin")
         self.assertEqual(str(refused.exception), "The place above it is in h1, which you hold: w:/engine/block. Wait until it is gone; nothing"
                          " was changed.")
@@ -299,7 +303,7 @@ class StoreInTheWay(WithStore):
     def test_told(self) -> None:
         self.client("ben").checkout(["w:" + STORE_PLACE])
         other = self.root / "other"
-        with self.assertRaises(Refused) as refused:
+        with self.assertRaises(RefusedError) as refused:
             self.parts.setting.set(f"file://{other}")
         self.assertIn(f"In the way is c2, which ben holds: w:{STORE_PLACE}.", str(refused.exception))
 
@@ -335,8 +339,8 @@ class Ring(WithDesigners):
         ben.checkout(["w:/y"])
         claim, output = anna.checkout(["w:/y"]).claim, Output("wait", True)
         moments: List[Callable[[], object]] = [lambda: ben.checkout(["w:/x"]), lambda: ben.abandon("c2")]
-        words = command_line().parse_args(["wait", claim])
-        with mock.patch("vault.claim_commands.wait_a_turn", lambda *_: moments.pop(0)()):
+        words = WaitWords.of(command_line().parse_args(["wait", claim]))
+        with mock.patch("vault.cli.claim_commands.wait_a_turn", lambda *_: moments.pop(0)()):
             claim_commands.wait(anna, words, output)
         self.assertEqual([notice.count("You hold /x, for which ben waits") for notice in output.notices], [0, 1])
 
@@ -381,7 +385,7 @@ class Ring(WithDesigners):
                 return f"OK claims 2000 {claims}\n".encode() if line.startswith(b"claims") else ask(line)
 
         stands = self.between(Endless)
-        with self.assertRaises(NotUnderstood) as refused:
+        with self.assertRaises(NotUnderstoodError) as refused:
             self.elsewhere("anna", stands.port).who("/")
         self.assertLess(len(str(refused.exception)), 300)
         self.assertEqual(stands.sent(b"show"), 0)
@@ -533,7 +537,7 @@ class Mine(WithDesigners):
         self.assertEqual(self.anna.kept_drafts("c1"), {})
 
     def test_as_many_as_there_may_be(self) -> None:
-        """256 claims, again and again on one connection and beyond its 4,096 lines."""
+        """256 claims, again and again on one connection and beyond its 4,096 lines; one more is refused, and it is asked how many there are."""
         ben = self.client("ben")
         for first in range(0, 250, 50):
             ben.link.read_all([f"checkout r:{PART}"] * 50)
@@ -545,10 +549,10 @@ class Mine(WithDesigners):
             self.assertEqual(len(ben.mine()), 250)
             self.assertEqual(len(self.anna.who("/")), 256)
         self.assertEqual(self.anna.standing("c256").before[0].claim, "c251")
-        with self.assertRaises(Refused) as refused:
+        with self.assertRaises(RefusedError) as refused:
             self.anna.checkout(["r:/"])
         self.assertEqual(refused.exception.code, 50)
-        self.assertEqual((self.notices, self.sent(b"claims")), ([], 37))
+        self.assertEqual((self.notices, self.sent(b"claims")), ([], 38))
 
     def test_names_that_look_like_claims(self) -> None:
         """A designer or a place called as a claim isn't taken for one: what becomes of a lost check-out is found out all the same."""
@@ -618,13 +622,13 @@ class Drafts(WithStore):
             (31, lambda: ben.drafts("c2")), (31, lambda: ben.draft("c2", PART)), (30, lambda: ben.drafts("c9")),
             (20, lambda: self.anna.draft("c2", "/none")), (22, lambda: self.anna.draft("c2", "/engine"))]
         for code, asked in cases:
-            with self.assertRaises(Refused) as refused:
+            with self.assertRaises(RefusedError) as refused:
                 asked()
             self.assertEqual(refused.exception.code, code)
         misused: List[Callable[[], object]] = [
             lambda: self.anna.drafts("h1"), lambda: self.anna.draft("c2", "engine"), lambda: self.anna.draft("c2 x", PART)]
         for odd in misused:
-            with self.assertRaises(Misused):
+            with self.assertRaises(MisusedError):
                 odd()
 
     def test_longest(self) -> None:
@@ -670,13 +674,13 @@ class Put(WithDesigners):
         """If one waits, the refusal is the server's; the client doesn't say that there is none."""
         self.client("ben").checkout(["w:/engine"])
         self.anna.checkout(["w:" + PART])
-        with self.assertRaises(Refused) as refused:
+        with self.assertRaises(RefusedError) as refused:
             self.anna.put(PART, b"x")
         self.assertEqual(refused.exception.code, 32)
 
     def test_none(self) -> None:
         self.anna.checkout(["r:" + PART])
-        with self.assertRaises(Misused) as refused:
+        with self.assertRaises(MisusedError) as refused:
             self.anna.put(PART, b"x")
         self.assertEqual(str(refused.exception), f"No check-out of yours takes in {PART} for change. `vault checkout w:{PART}` asks for one.")
 
@@ -703,7 +707,7 @@ class WaitTests(WithDesigners):
         with ThreadPoolExecutor(1) as pool:
             done = pool.submit(do)
             try:
-                return claim_commands.wait(ben, command_line().parse_args(["wait", "c2", *more]), self.output)[0]
+                return claim_commands.wait(ben, WaitWords.of(command_line().parse_args(["wait", "c2", *more])), self.output)[0]
             finally:
                 done.result()
 
@@ -744,7 +748,7 @@ class WaitTests(WithDesigners):
             if self.anna.state("c1").gone:
                 self.anna.checkout(["w:" + PART])
             stands = self.between(kind)
-            with self.assertRaises(Refused):
+            with self.assertRaises(RefusedError):
                 self.waited(stands, None, "--at-most", "2")
             self.assertTrue(2 <= stands.sent(b"wait") <= 4, (kind, stands.sent(b"wait")))
 
@@ -752,7 +756,7 @@ class WaitTests(WithDesigners):
         """The time is over before the server answers."""
         stands = self.between(Holding)
         began = time.monotonic()
-        with self.assertRaises(Refused) as refused:
+        with self.assertRaises(RefusedError) as refused:
             self.waited(stands, None, "--at-most", "1")
         self.assertLess(time.monotonic() - began, 8)
         self.assertEqual(str(refused.exception),
@@ -768,7 +772,7 @@ class WaitTests(WithDesigners):
 
         def wait() -> None:
             one = Client("anna", "127.0.0.1", stands.port, anna.memory.path.parent, 5.0, 0.05)
-            said.append(claim_commands.wait(one, command_line().parse_args(["wait", claim]), output)[0])
+            said.append(claim_commands.wait(one, WaitWords.of(command_line().parse_args(["wait", claim])), output)[0])
             one.close()
 
         waits = threading.Thread(target=wait)
@@ -784,7 +788,7 @@ class WaitTests(WithDesigners):
 
     def test_gone(self) -> None:
         stands = self.between(Holding)
-        with self.assertRaises(Refused) as refused:
+        with self.assertRaises(RefusedError) as refused:
             self.waited(stands, lambda: self.client("ben").abandon("c2"))
         self.assertEqual((refused.exception.code, stands.sent(b"wait")), (30, 1))
 
@@ -821,7 +825,7 @@ class WaitTests(WithDesigners):
         self.server.words = ("--workers", "16", "--waits", "0")
         self.server.start()
         stands = self.between(Between)
-        with self.assertRaises(Refused):
+        with self.assertRaises(RefusedError):
             self.waited(stands, None, "--at-most", "2")
         self.assertTrue(2 <= stands.sent(b"wait") <= 4, stands.sent(b"wait"))
 
@@ -917,13 +921,13 @@ class Forms(unittest.TestCase):
         for text in ("claim c2 ben held", "claim c2 ben queued behind w:/e", "claim c2 ben queued behind c1 c3 w:/e", "claim c02 ben held w:/e",
                      "claim c2 Ben held w:/e", "claim c2 ben held x:/e", "claim c2 ben held w:/../e", "claim c2 ben held " + "w:/e " * 9,
                      "claim c3 ben held w:/e", "claims c2 ben held w:/e"):
-            with self.assertRaises(NotUnderstood, msg=text):
+            with self.assertRaises(NotUnderstoodError, msg=text):
                 holder_in(Reply(True, tuple(text.split())), "c2")
 
     def test_listed(self) -> None:
         self.assertEqual(listed_in(Reply(True, ("claims", "2", "c1", "h3")), CLAIM), ("c1", "h3"))
         for words in (("claims", "1"), ("claims", "1", "x"), ("claims", "2", "c1"), ("claims", "x", "c1"), ("claims",)):
-            with self.assertRaises(NotUnderstood, msg=words):
+            with self.assertRaises(NotUnderstoodError, msg=words):
                 listed_in(Reply(True, words), CLAIM)
 
     def test_named(self) -> None:

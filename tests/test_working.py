@@ -9,19 +9,24 @@ import time
 import unicodedata
 import unittest
 from pathlib import Path
-from typing import Any, Callable, Dict, List, Optional, Tuple
+from typing import Any, Callable, Dict, List, Optional, Sequence, Tuple
 from unittest import mock
 
 from servers import MEMORY, Server
 from stepping import Stepper
 from stores import NAME, PART, ROD, WithStore
 
-from vault import Client, Misused, NotKnown, Refused, Unreachable, VaultError
-from vault.card import Card, now
-from vault.folder import find_folder, read_folder
-from vault.names import candidates, choose_name, folded, part_name, usable
-from vault.parts import Parts
-from vault.working import Done, State, Working, folder_for
+from vault import Client, MisusedError, NotKnownError, RefusedError, UnreachableError, VaultError
+from vault.client.many import Saving
+from vault.store.card import Card, now
+from vault.working.folder import Folder, find_folder, read_folder
+from vault.files import system
+from vault.files.names import candidates, choose_name, folded, part_name, usable
+from vault.store.parts import Parts
+from vault.working.found import State
+from vault.working.opening import folder_for
+from vault.working.told import Done
+from vault.working import Working
 
 VALVE = "/engine/block/head/valve"
 ENGINE = "/engine"
@@ -159,7 +164,7 @@ class Get(WithFolder):
         other = self.root / "other"
         other.mkdir()
         (other / "note").write_bytes(b"x")
-        with self.assertRaises(Misused):
+        with self.assertRaises(MisusedError):
             self.got(work=other)
         self.anna.make("/engine/block/pin")
         self.version("/engine/block/pin", "Bolzen.SLDPRT", b"pin")
@@ -237,20 +242,21 @@ class Get(WithFolder):
         """The same where the system refuses to write one file; not where the disk is full."""
         self.version(PART, NAME, b"bore 81")
         self.version(ROD, "Pleuel.SLDPRT", b"length 145")
-        replace = os.replace
+        swap = system.exchange
 
-        def refused(reason: int) -> Callable[[Any, Any], None]:
-            def replaced(source: Any, target: Any) -> None:
-                if Path(target).name == NAME:
+        def refused(reason: int) -> Callable[[Path, Path], bool]:
+            def exchanged(source: Path, target: Path) -> bool:
+                if target.name == NAME:
                     raise OSError(reason, os.strerror(reason))
-                replace(source, target)
+                return swap(source, target)
 
-            return replaced
+            return exchanged
 
-        with mock.patch("os.replace", refused(errno.ENOSPC)), self.assertRaises(OSError):
+        with mock.patch("vault.working.disk.exchange", refused(errno.ENOSPC)), self.assertRaises(OSError):
             self.got()
-        with mock.patch("os.replace", refused(errno.EIO)):
+        with mock.patch("vault.working.disk.exchange", refused(errno.EIO)):
             done = self.got()
+        self.assertEqual(self.files()[NAME], self.contents[PART])
         self.assertEqual((done.files, done.failed, self.files()["Pleuel.SLDPRT"]), (["Pleuel.SLDPRT"], 1, b"length 145"))
         self.assertIn("was not fetched", done.left[0][1])
 
@@ -275,7 +281,8 @@ class Get(WithFolder):
             self.vault(*words)
             found = self.files(office)
             self.assertEqual((found[NAME], found["head/Ventil links.SLDPRT"]), (b"bore %d" % number, b"lift %d" % number))
-            self.assertEqual(sorted(os.listdir(office / ".vault")), ["folder.json", "lock"])
+            self.assertEqual(sorted(os.listdir(office / ".vault")), ["before", "folder.json", "lock"])
+            self.assertEqual([path for path in office.rglob("swap-*")], [])
             step += 5
         self.assertGreater(step, 30)
 
@@ -316,11 +323,21 @@ class Hostile(WithFolder):
         self.assertEqual(len(self.got().files), len(names))
         self.assertEqual(self.outside(), before)
         found = self.files()
-        self.assertEqual(len({folded(name) for name in found}), len(names) + 3)
+        self.assertEqual(len(found), len(names) + 3)
         self.assertTrue(all(usable(part) for name in found for part in name.split("/")), found)
         for number in range(len(names)):
             self.assertIn(b"%d" % number, found.values())
         self.assertEqual(self.got().files, [])
+
+    def test_names_without_capitals(self) -> None:
+        """Where a disk doesn't tell capitals apart, two names that differ only in these become two that differ otherwise."""
+        for number, name in enumerate(("Welle.SLDPRT", "WELLE.sldprt", "kolben 80.sldprt")):
+            self.anna.make(f"/engine/block/p{number}")
+            self.version(f"/engine/block/p{number}", name, b"%d" % number)
+        with mock.patch.object(Folder, "tells_capitals", False):
+            self.got()
+        self.assertEqual(sorted(set(self.files()) - {NAME}), ["Pleuel.SLDPRT", "WELLE (p1).sldprt", "Welle.SLDPRT", "head/Ventil links.SLDPRT",
+                                                              "kolben 80 (p2).sldprt"])
 
     def test_links(self) -> None:
         """A link is never written through: neither in a file's place, nor in a folder's, nor in that of the client's own."""
@@ -334,12 +351,12 @@ class Hostile(WithFolder):
         self.version(VALVE, "Ventil links.SLDPRT", b"lift 10")
         (self.work / "head").rename(self.root / "head")
         (self.work / "head").symlink_to(target)
-        with self.assertRaises(Misused):
+        with self.assertRaises(MisusedError):
             self.got()
         (self.work / "head").unlink()
         (self.work / ".vault").rename(self.root / "own")
         (self.work / ".vault").symlink_to(self.root / "own")
-        with self.assertRaises(Misused):
+        with self.assertRaises(MisusedError):
             self.got()
         self.assertEqual(self.files(target), {"file": b"theirs"})
 
@@ -348,9 +365,9 @@ class Hostile(WithFolder):
         (self.work / NAME).unlink()
         (self.work / NAME).symlink_to(self.root / "secret")
         claim = self.anna.checkout(["w:" + PART]).claim
-        with self.assertRaises(Misused):
-            self.working().put()
-        self.assertEqual(self.anna.kept_drafts(claim), {})
+        done = self.working().put()
+        self.assertEqual((done.files, done.failed, self.anna.kept_drafts(claim)), ([], 1, {}))
+        self.assertIn("is a link", done.left[0][1])
 
     def test_remembered_elsewhere(self) -> None:
         """What `.vault` says is read as strictly as what a stranger wrote."""
@@ -444,7 +461,7 @@ class PutAndCheckin(WithFolder):
         (self.work / NAME).write_bytes(b"mine")
         first = self.anna.checkout(["w:" + PART]).claim
         queued = self.anna.checkout(["w:/engine"]).claim
-        with self.assertRaises(Misused):
+        with self.assertRaises(MisusedError):
             self.working().put(queued)
         self.assertEqual(self.working().put(first).files, [NAME])
         self.assertEqual(self.working(self.another()).put().files, [])
@@ -476,7 +493,7 @@ class PutAndCheckin(WithFolder):
 
         def lost(place: str) -> Tuple[List[str], Dict[str, int]]:
             if not self.anna.held("/"):
-                raise Unreachable("No server answers.")
+                raise UnreachableError("No server answers.")
             return survey(place)
 
         with mock.patch.object(self.anna, "survey", lost):
@@ -498,7 +515,7 @@ class PutAndCheckin(WithFolder):
         self.working().put()
         checkin = self.anna.checkin
         with mock.patch.object(self.anna, "checkin", lambda claim: checkin(claim if claim == claims[0] else "c999")):
-            with self.assertRaises(Refused) as refused:
+            with self.assertRaises(RefusedError) as refused:
                 self.working().checkin(None)
         self.assertIn(f"{claims[0]} is checked in: 1 new version. There is no such check-out", str(refused.exception))
         self.assertEqual(refused.exception.fields, {"claims": claims[:1], "versions": 1})
@@ -529,7 +546,7 @@ class PutAndCheckin(WithFolder):
             self.assertEqual((done.files, done.left), ([NAME], []))
             if changed:
                 (self.work / NAME).write_bytes(b"bore 82")
-            with self.assertRaises(Refused) as refused:
+            with self.assertRaises(RefusedError) as refused:
                 self.working().checkin(None)
             self.assertIn(f"{NAME} has another draft in {claim}", str(refused.exception))
             self.assertIn(f"`vault draft {claim} {PART} --to OTHER-FILE", str(refused.exception))
@@ -555,7 +572,7 @@ class PutAndCheckin(WithFolder):
         (self.work / "Pleuel.SLDPRT").write_bytes(b"length 145")
         done = self.working().put()
         self.assertEqual((done.files, [name for name, _ in done.left], self.anna.draft(second, PART)), (["Pleuel.SLDPRT"], [NAME], draft))
-        with self.assertRaises(Refused) as refused:
+        with self.assertRaises(RefusedError) as refused:
             self.working().checkin(None)
         self.assertIn(f"nothing was checked in. {NAME} has another draft in {second}", str(refused.exception))
 
@@ -567,7 +584,7 @@ class PutAndCheckin(WithFolder):
         for place, name in ((ROD, "Pleuel.SLDPRT"), ("/engine/block/pin", "/engine/block/pin")):
             (self.work / NAME).write_bytes(b"bore of " + place.encode())
             self.parts.put(place, self.file, claim)
-            with self.assertRaises(Refused) as refused:
+            with self.assertRaises(RefusedError) as refused:
                 self.working().checkin(None)
             for said in ("nothing was checked in", f"{name} has a", f"`vault draft {claim} {place} --to", f"`vault checkin {claim}`"):
                 self.assertIn(said, str(refused.exception))
@@ -584,7 +601,7 @@ class PutAndCheckin(WithFolder):
         claim = self.anna.checkout(["w:/engine/block"]).claim
         self.parts.put(PART, self.file, claim)
         (head / "Ventil links.SLDPRT").write_bytes(b"lift 10")
-        with self.assertRaises(Refused) as refused:
+        with self.assertRaises(RefusedError) as refused:
             self.working(place="/engine/block/head", work=head).checkin(None)
         for said in ("nothing was checked in", f"{PART} has a draft in {claim}", f"`vault checkin {claim}` checks it in as it is"):
             self.assertIn(said, str(refused.exception))
@@ -594,7 +611,7 @@ class PutAndCheckin(WithFolder):
         """It is refused before anything is put."""
         claim = self.anna.checkout(["w:" + PART]).claim
         (self.work / NAME).write_bytes(b"bore 81")
-        with self.assertRaises(Misused):
+        with self.assertRaises(MisusedError):
             self.working().checkin("x" * 401)
         self.assertEqual(self.anna.drafts(claim), [])
 
@@ -603,9 +620,15 @@ class PutAndCheckin(WithFolder):
         claim = self.anna.checkout(["w:/engine/block"]).claim
         for name in (NAME, "Pleuel.SLDPRT"):
             (self.work / name).write_bytes(b"mine")
-        put = self.parts.put
-        with mock.patch.object(self.parts, "put", lambda place, *words, **more: put(place if place == PART else "/none", *words, **more)):
-            with self.assertRaises(Refused) as refused:
+        save = self.anna.save_all
+
+        def refused_but_one(wanted: Sequence[Saving], claim: str) -> Dict[str, RefusedError]:
+            """Saves one draft, and the other one where no part is."""
+            refused = save([each if each.place == PART else each._replace(place="/none") for each in wanted], claim)
+            return {ROD: error for error in refused.values()}
+
+        with mock.patch.object(self.anna, "save_all", refused_but_one):
+            with self.assertRaises(RefusedError) as refused:
                 self.working().put()
         self.assertTrue(str(refused.exception).startswith(f"{NAME} is a draft in {claim} now. "), str(refused.exception))
         self.assertEqual((refused.exception.fields["files"], self.anna.drafts(claim)), ([NAME], [PART]))
@@ -625,7 +648,7 @@ class PutAndCheckin(WithFolder):
         (self.work / NAME).unlink()
         done = self.working().put()
         self.assertEqual((done.drafts, [name for name, _ in done.left]), (["Pleuel.SLDPRT"], [NAME]))
-        with self.assertRaises(Refused) as refused:
+        with self.assertRaises(RefusedError) as refused:
             self.working().checkin(None)
         for said in ("nothing was checked in", f"{NAME} is missing here", f"vault draft {claim} {PART}", f"vault checkin {claim}"):
             self.assertIn(said, str(refused.exception))
@@ -645,7 +668,7 @@ class PutAndCheckin(WithFolder):
         done = self.working().put()
         self.assertEqual((done.files, done.drafts), ([], []))
         self.assertIn(f"has another draft in {claim}, which was put elsewhere", done.left[0][1])
-        with self.assertRaises(Refused) as refused:
+        with self.assertRaises(RefusedError) as refused:
             self.working().checkin(None)
         self.assertIn("which was put elsewhere", str(refused.exception))
         self.parts.put(PART, self.file, claim)
@@ -726,7 +749,7 @@ class PutAndCheckin(WithFolder):
         for path, content in zip(self.server.files, kept):
             Path(path).write_bytes(content)
         self.server.start()
-        with self.assertRaises(Refused) as refused:
+        with self.assertRaises(RefusedError) as refused:
             self.working().made_again("seals/Ring")
         self.assertIn("`vault nest /engine/block/seals` makes it again", str(refused.exception))
         self.anna.nest("/engine/block/seals")
@@ -737,7 +760,7 @@ class PutAndCheckin(WithFolder):
         (self.work / "PLEUEL.sldprt").hardlink_to(self.work / "Pleuel.SLDPRT")
         (self.work / "KOLBEN 80.sldprt").write_bytes(b"another")
         self.assertEqual(find_folder(self.work).others(), ["KOLBEN 80.sldprt"])
-        with self.assertRaises(Misused) as refused:
+        with self.assertRaises(MisusedError) as refused:
             self.working().add("PLEUEL.sldprt")
         self.assertIn(f"is {ROD} already", str(refused.exception))
 
@@ -761,7 +784,7 @@ class PutAndCheckin(WithFolder):
         one. One into which somebody put a version meanwhile is another's."""
         for number, name in enumerate(("Bolzen", "Buchse")):
             (self.work / name).write_bytes(b"pin")
-            with mock.patch.object(self.anna, "make", self.made_and_lost), self.assertRaises(NotKnown):
+            with mock.patch.object(self.anna, "make", self.made_and_lost), self.assertRaises(NotKnownError):
                 self.working().add(name)
             place = "/engine/block/" + name.lower()
             if number:
@@ -770,14 +793,14 @@ class PutAndCheckin(WithFolder):
         self.assertEqual(self.anna.names("/engine/block")[-3:], ["bolzen", "buchse", "buchse_2"])
         self.client("ben").checkout(["w:/engine"])
         (self.work / "Mutter").write_bytes(b"nut")
-        with self.assertRaises(Refused):
+        with self.assertRaises(RefusedError):
             self.working().add("Mutter")
         self.assertEqual(find_folder(self.work).making, {})
 
     def made_and_lost(self, place: str, claim: str = "") -> None:
         """Makes a place, and says that nobody knows whether that was done."""
         self.another("ben").client.make(place, claim)
-        raise NotKnown("The server is lost.")
+        raise NotKnownError("The server is lost.")
 
     def test_what_can_not_be_added(self) -> None:
         self.got(ENGINE, self.root / "engine")
@@ -789,10 +812,10 @@ class PutAndCheckin(WithFolder):
         for name, said in ((NAME, "already"), ("none", "is no file"), ("link", "is no file"), ("a:b", "Rename it"), ("../x", "Move its files"),
                            (".vault/lock", "Move its files"), ("new/x", "`vault nest /engine/block/new` makes an assembly of it, and `vault get"
                                                                         f" /engine/block --to {self.work}` has")):
-            with self.assertRaises(Misused, msg=name) as refused:
+            with self.assertRaises(MisusedError, msg=name) as refused:
                 self.working().add(name)
             self.assertIn(said, str(refused.exception))
-        with self.assertRaises(Misused) as refused:
+        with self.assertRaises(MisusedError) as refused:
             self.working(place=ENGINE, work=self.root / "engine").add("Bild.SLDPRT")
         self.assertIn("`vault make /engine/NAME` makes an assembly", str(refused.exception))
 
@@ -821,7 +844,7 @@ class PutAndCheckin(WithFolder):
         """It says what makes it possible, and not an option that it doesn't have."""
         claim = self.anna.checkout(["r:/engine/block"]).claim
         (self.work / "Bolzen").write_bytes(b"pin")
-        with self.assertRaises(Refused) as refused:
+        with self.assertRaises(RefusedError) as refused:
             self.working().add("Bolzen")
         self.assertIn(f"`vault extend {claim} w:/engine/block` has it change that, too, or `vault abandon {claim}`", str(refused.exception))
         self.assertNotIn("--claim", str(refused.exception))
@@ -836,7 +859,7 @@ class PutAndCheckin(WithFolder):
         moved.start()
         both = self.at_addresses(moved.port, self.cutter.port)
         alone = self.at_addresses(moved.port)
-        with self.assertRaises(Misused) as refused:
+        with self.assertRaises(MisusedError) as refused:
             self.working(alone)
         self.assertIn(f"say `vault hello anna@127.0.0.1:{moved.port},127.0.0.1:{self.cutter.port}`, and then `vault get /engine/block --to"
                       f" {self.work}`", str(refused.exception))
@@ -859,14 +882,14 @@ class PutAndCheckin(WithFolder):
                     each()
                 self.assertIn("can't be locked: No locks available", str(refused.exception))
         folder = find_folder(self.work)
-        with folder.locked(), self.assertRaises(Misused) as busy:
+        with folder.locked(), self.assertRaises(MisusedError) as busy:
             self.got()
         self.assertIn("Another `vault` works in", str(busy.exception))
 
     def test_at_another_server(self) -> None:
         ben = Client("ben", "127.0.0.1", self.server.port, self.root)
         self.addCleanup(ben.close)
-        with self.assertRaises(Misused):
+        with self.assertRaises(MisusedError):
             Working(Parts(ben), find_folder(self.work))
 
 
@@ -932,15 +955,16 @@ class Program(WithFolder):
         self.assertIn(f"{work}/Mutter is /engine/block/mutter. No part can be made of 'a:b'", said["sentence"])
 
     def test_add_all_beside_a_folder(self) -> None:
-        """A folder of no assembly is passed over with advice, and what sorts behind it is added."""
+        """A folder of no assembly becomes one only if that is said, and what sorts behind it is added."""
         work = self.folder_of_program
         self.vault("get", "/engine/block", "--to", str(work))
         (work / "seals").mkdir()
         for name in ("seals/Ring", "zzz"):
             (work / name).write_bytes(b"x")
-        said = self.as_json("add", str(work / "seals"), str(work / "zzz"))
+        said = self.as_json("add", str(work / "seals"), str(work / "zzz"), status=1)
         self.assertEqual(said["made"], {str(work / "zzz"): "/engine/block/zzz"})
-        self.assertIn("`vault nest /engine/block/seals` makes an assembly of it", said["notices"][0])
+        self.assertIn("makes 1 assembly and 1 part of 1 bytes in /engine/block. A place stays for good.", said["notices"][0])
+        self.assertIn("is /engine/block/zzz. Nothing was changed. Say the same with `--yes`", said["sentence"])
         self.vault("nest", "/engine/block/seals")
         self.vault("get", "/engine/block", "--to", str(work))
         self.assertIn(b"is /engine/block/seals/ring.", self.vault("add", str(work / "seals" / "Ring")))
@@ -1025,7 +1049,8 @@ class Program(WithFolder):
         for line in ("block/Kopf/ is the folder of no assembly, so no file in it is a part's: rename it to kopf; then `vault nest"
                      f" /engine/block/kopf` makes an assembly of it, and `vault get /engine --to {work}` has this folder know that.",
                      "block/head: missing here. It is the folder of /engine/block/head: if you renamed it, give it this name again.",
-                     "block/a:b: not in the vault. No part's file can have this name on every system: rename it."):
+                     "block/a:b: not in the vault. No part's file can have this name on every system: it has `:`, which Windows doesn't take in a"
+                     " name. Rename it."):
             self.assertIn(line + "\n", said)
         self.assertNotIn(".hidden", said)
         self.assertEqual(self.as_json("status", str(work))["others"], ["Bild.png", "block/Kopf/", "block/a:b", "block/link"])

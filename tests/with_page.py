@@ -18,7 +18,7 @@ from servers import MEMORY, TOP, Server, Tap
 from tries import told
 
 from vault import Client
-from vault.card import Card
+from vault.store.card import Card
 
 PART = "/engine/block/piston"
 CARD = Card("ab" * 32, 48_000_000, "Kolben <b>80</b>.SLDPRT", "anna", "2026-11-20T08:15:00Z", "bore & \u202e80")
@@ -69,7 +69,7 @@ class WithPage(unittest.TestCase):
     def text(self, path: str) -> str:
         """The text of a page, without its markup."""
         _, start, body = self.page.page(path).partition("<body")
-        return re.sub(r"\s+", " ", html.unescape(re.sub(r"<[^>]*>", " ", start + body)))
+        return re.sub(r"\s+", " ", html.unescape(re.sub(r"<[^>]*>", " ", re.sub(r"</?mark>", "", start + body))))
 
     def stream(self, path: str) -> Stream:
         """An open page's stream."""

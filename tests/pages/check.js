@@ -36,7 +36,7 @@
 
   // Names of what can be used
   const named = element => (element.getAttribute("aria-label") || element.textContent || "").trim();
-  for (const field of document.querySelectorAll("input, select, textarea")) {
+  for (const field of document.querySelectorAll("input:not([type=hidden]), select, textarea")) {
     if (!document.querySelector(`label[for="${field.id}"]`) && !field.getAttribute("aria-label")) found.push(`no label: ${field.outerHTML}`);
   }
   for (const element of document.querySelectorAll("a, button, summary")) if (!named(element)) found.push(`no name: ${element.outerHTML}`);
@@ -52,13 +52,22 @@
   const heads = [...document.querySelectorAll("h1, h2, h3, h4")].map(head => Number(head.tagName[1]));
   if (heads.filter(level => level === 1).length !== 1 || heads[0] !== 1) found.push(`headings ${heads}`);
   heads.forEach((level, at) => { if (at && level > heads[at - 1] + 1) found.push(`headings ${heads}`); });
-  for (const mark of ["html[lang]", "title", "main", "header", "a.skip[href]", "[aria-live=polite]"]) {
+  for (const mark of ["html[lang]", "title", "main", "header", "[aria-live=polite]"]) {
     if (document.querySelectorAll(mark).length !== 1) found.push(`not one ${mark}`);
   }
+  for (const skip of document.querySelectorAll("a.skip")) {
+    if (!document.getElementById(skip.getAttribute("href").slice(1))) found.push(`leads nowhere: ${skip.outerHTML}`);
+  }
+  if (!document.querySelector("a.skip")) found.push("no way past the head");
   const ids = [...document.querySelectorAll("[id]")].map(element => element.id);
   if (new Set(ids).size !== ids.length) found.push("an id stands there twice");
 
-  // Nothing is wider than the window
+  // Nothing leaves its card, and nothing is wider than the window
+  for (const card of document.querySelectorAll(".card")) {
+    const edge = card.getBoundingClientRect().right + 1;
+    const out = [...card.querySelectorAll("*")].find(element => shown(element) && !element.closest(".hidden, svg, .stacks thead") && element.getBoundingClientRect().right > edge);
+    if (out) found.push(`leaves its card: ${out.outerHTML.slice(0, 60)}`);
+  }
   const wide = document.documentElement.scrollWidth - document.documentElement.clientWidth;
   if (wide > 0) found.push(`wider than the window by ${wide}`);
   return found;
