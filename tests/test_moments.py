@@ -61,12 +61,12 @@ class Moments(unittest.TestCase):
         self.try_all(self.small_disk(kind), FOLDER, saves, COARSE_SECONDS, (COARSE_STEP, 1, WRITES))
 
     def test_vfat(self) -> None:
-        """Times of two seconds."""
+        """Times of two seconds, by the kernel's vfat where it has one."""
         self.try_coarse("vfat")
 
-    def test_seconds(self) -> None:
-        """Times of whole seconds."""
-        self.try_coarse("seconds")
+    def test_two_seconds(self) -> None:
+        """Times of two seconds, on a disk that any kernel has."""
+        self.try_coarse("two_seconds")
 
     def test_power(self) -> None:
         """A power cut, on a disk that keeps only what was put on it."""

@@ -1,11 +1,12 @@
 """Small disks of their own, each in a file that is mounted: of ext4; of ext2, which loses at a power cut whatever wasn't put on disk; of vfat, which
-keeps a file's time in steps of two seconds; and of an ext4 that keeps it in whole seconds."""
+keeps a file's time in steps of two seconds; and, for a kernel without vfat, of an ext4 behind a program that tells times in such steps."""
 
 import contextlib
 import os
 import shutil
 import subprocess
 import tempfile
+import time
 from pathlib import Path
 from typing import Dict, Iterator, Optional, Sequence
 
@@ -16,10 +17,10 @@ IMAGE, WHERE, CUT = "IMAGE", "WHERE", "CUT"
 MAKERS: Dict[str, Sequence[str]] = {
     "ext4": ("mkfs.ext4", "-q", "-m", "0", IMAGE),
     "ext2": ("mkfs.ext2", "-q", "-m", "0", IMAGE),
-    "seconds": ("mkfs.ext4", "-q", "-m", "0", "-I", "128", IMAGE),
     "vfat": ("mkfs.vfat", "-F", "32", "-s", "1", IMAGE),
 }
-MOUNTED = {"seconds": "ext4"}
+# What shows a folder with times in steps of two seconds, and how long it may take to begin.
+IN_STEPS, BEGINS = Path(__file__).with_name("two_seconds.py"), 20.0
 # e2fsck's statuses where it mended all.
 MENDED = (0, 1)
 
@@ -71,7 +72,7 @@ class Disk:
 
     def _mount(self) -> None:
         """Mounts it."""
-        self._run(("mount", "-t", MOUNTED.get(self.kind, self.kind), "-o", "loop", IMAGE, WHERE))
+        self._run(("mount", "-t", self.kind, "-o", "loop", IMAGE, WHERE))
 
     def _run(self, words: Sequence[str], well: Sequence[int] = (0,)) -> None:
         """Runs a program, or says why it can't be."""
@@ -83,11 +84,37 @@ class Disk:
             raise NoDisk(f"{' '.join(words)}: {done.returncode} {done.stderr.strip()}")
 
 
+class DiskInSteps(Disk):
+    """A small disk that tells times in steps of two seconds."""
+
+    def __init__(self, folder: Path):
+        super().__init__("ext4", folder)
+        self.behind, self.where = self.where, folder / "steps"
+        self.where.mkdir()
+        self.program = subprocess.Popen(["/usr/bin/python3", str(IN_STEPS), str(self.behind), str(self.where)], stdout=subprocess.DEVNULL,
+                                        stderr=subprocess.PIPE, text=True)
+        until = time.monotonic() + BEGINS
+        while not os.path.ismount(self.where):
+            if self.program.poll() is not None or time.monotonic() > until:
+                self.unmount()
+                raise NoDisk(f"{IN_STEPS.name}: {(self.program.stderr.read() if self.program.stderr else '').strip() or 'it does not begin'}")
+            time.sleep(0.02)
+
+    def unmount(self) -> None:
+        """Takes it away, and what is behind it."""
+        if os.path.ismount(self.where):
+            super().unmount()
+        self.program.terminate()
+        self.program.wait()
+        self.where = self.behind
+        super().unmount()
+
+
 @contextlib.contextmanager
 def small_disk(kind: str, above: Optional[str] = None) -> Iterator[Disk]:
-    """A small disk, for as long as it is needed."""
+    """A small disk, for as long as it is needed: of a kind of MAKERS, or `two_seconds`."""
     with tempfile.TemporaryDirectory(prefix="vault-test-disk-", dir=above) as folder:
-        disk = Disk(kind, Path(folder))
+        disk = DiskInSteps(Path(folder)) if kind == IN_STEPS.stem else Disk(kind, Path(folder))
         try:
             yield disk
         finally:
