@@ -6,11 +6,12 @@ import shutil
 import tempfile
 import threading
 from pathlib import Path
-from typing import Any, List
+from typing import Any, Dict, List
 
 from selenium import webdriver
 from selenium.common.exceptions import WebDriverException
 from selenium.webdriver.chrome.service import Service
+from selenium.webdriver.remote.webelement import WebElement
 
 SECONDS = 20
 WORDS = (
@@ -60,6 +61,7 @@ class Browser:
         self.driver = webdriver.Chrome(options=options, service=Service(needed("chromedriver")))
         self.driver.set_page_load_timeout(SECONDS)
         self.driver.set_script_timeout(SECONDS)
+        self.under: Dict[str, Any] = {}
 
     def close(self) -> None:
         """Ends it."""
@@ -83,6 +85,17 @@ class Browser:
             "width": width, "height": height, "deviceScaleFactor": 1, "mobile": width < 500})
         self.driver.execute_cdp_cmd("Emulation.setEmulatedMedia", {
             "media": media, "features": [{"name": "prefers-color-scheme", "value": "dark" if dark else "light"}]})
+
+    def press(self, element: WebElement) -> None:
+        """Moves the mouse onto something, and presses it."""
+        rect = element.rect
+        self.under = {"x": rect["x"] + rect["width"] / 2, "y": rect["y"] + rect["height"] / 2, "button": "left", "clickCount": 1}
+        for kind in ("mouseMoved", "mousePressed"):
+            self.driver.execute_cdp_cmd("Input.dispatchMouseEvent", {**self.under, "type": kind})
+
+    def let_go(self) -> None:
+        """Lets go of what is pressed."""
+        self.driver.execute_cdp_cmd("Input.dispatchMouseEvent", {**self.under, "type": "mouseReleased"})
 
     def run_scripts(self, runs: bool) -> None:
         """Whether pages' scripts run."""

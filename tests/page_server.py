@@ -129,14 +129,14 @@ class Stream:
         self.socket.close()
 
     def next(self, wanted: Callable[[str, Any], bool], seconds: float) -> Tuple[float, Any]:
-        """Waits for such an event. Gives how long that took, and what the event says."""
+        """Waits for such an event, on a busy machine longer. Gives how long that took, and what the event says."""
         begun = time.monotonic()
         while True:
             while self.events:
                 kind, data = self.events.pop(0)
                 if wanted(kind, data):
                     return time.monotonic() - begun, data
-            left = begun + seconds - time.monotonic()
+            left = begun + soon(seconds) - time.monotonic()
             if left <= 0 or not self._take(left):
                 raise AssertionError("such an event never came")
 
@@ -170,10 +170,10 @@ def soon(seconds: float = 1.0) -> float:
 
 
 def until(holds: Callable[[], bool], seconds: float) -> float:
-    """Waits until something holds. Gives how long that took."""
+    """Waits until something holds, on a busy machine longer. Gives how long that took."""
     begun = time.monotonic()
     while not holds():
-        if time.monotonic() - begun > seconds:
-            raise AssertionError("it never held")
+        if time.monotonic() - begun > soon(seconds):
+            raise AssertionError(f"it never held in {time.monotonic() - begun:.0f} seconds")
         time.sleep(0.02)
     return time.monotonic() - begun

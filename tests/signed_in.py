@@ -87,8 +87,8 @@ class Nginx:
 class SignedInPage(PageServer):
     """`vaultd-page` with a socket for who is signed in."""
 
-    def __init__(self, vault_port: int, folder: Path, *words: str):
-        self.socket_path = folder / f"act-{secrets.token_hex(4)}.socket"
+    def __init__(self, vault_port: int, folder: Path, *words: str, socket_path: Optional[Path] = None):
+        self.socket_path = socket_path or folder / f"act-{secrets.token_hex(4)}.socket"
         super().__init__(vault_port, "--state", str(folder), "--act-at", str(self.socket_path), *words)
 
     def ask(self, name: str, path: str, method: str = "GET", body: bytes = b"", **headers: str) -> Tuple[int, Dict[str, str], bytes]:

@@ -14,13 +14,14 @@ from pathlib import Path
 from typing import Dict, List, Tuple
 from unittest import mock
 
-from page_server import until
+from page_server import soon, until
 from servers import MEMORY, Server
 from signed_in import SignedInPage, multipart
 
 from vault import Client
 from vault.store.card import Card
 from vault.store.setting import Setting
+from vaultd_tools.page.acting import PATIENCE_SECONDS
 from vaultd_tools.page.identity import TOKEN_SECONDS, Identity
 
 PART = "/engine/block/piston"
@@ -122,6 +123,33 @@ class Acts(WithActs):
         before = self.files()
         self.assertIn("refused: The page's log takes no line, and without one nothing is changed", self.page.act("anna", "checkout", place=PART)[1])
         self.assertEqual(self.files(), before)
+
+
+class Away(WithActs):
+    """The vault's server is away."""
+
+    def test_how_long_that_takes(self) -> None:
+        """An act says so once it has tried for a while; the page after it comes at once, however much somebody has, with what was known."""
+        self.page.act("anna", "checkout", place=PART)
+        self.page.put("anna", "c2", PART, {"piston": b"x"})
+        for number in range(3):
+            self.page.act("anna", "make", place="/engine/block", name=f"pin_{number}")
+            self.page.act("anna", "checkout", place=f"/engine/block/pin_{number}")
+        token = self.page.token("anna")
+        self.server.kill()
+        begun = time.monotonic()
+        form = f"token={token}&claim=c2&why=longer".encode()
+        location = self.page.ask("anna", "/.act/checkin", "POST", form, Origin="http://127.0.0.1", Content_Type=FORM)[1]["location"]
+        self.assertLess(time.monotonic() - begun, PATIENCE_SECONDS + soon(4))
+        begun = time.monotonic()
+        body = self.page.ask("anna", location)[2].decode()
+        self.assertLess(time.monotonic() - begun, soon(3))
+        self.assertIn("No server answers at 127.0.0.1", body)
+        self.assertIn("No vault since", body)
+        self.assertIn(f'Drafts: <span class="path">{PART}</span>', body)
+        self.assertEqual(self.page.ask("anna", "/.file" + PART)[0], 503)
+        self.server.start()
+        until(lambda: self.page.act("anna", "checkin", claim="c2", why="longer")[1] == "c2 is checked in: 1 new version.", 20)
 
 
 class Attacks(WithActs):

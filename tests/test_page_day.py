@@ -3,13 +3,15 @@
 import signal
 import subprocess
 import tempfile
+import time
 import unittest
 import zipfile
 from pathlib import Path
-from typing import Dict, List
+from typing import Dict, List, Optional
 
 from browser import Browser
 from page_server import until
+from selenium.webdriver.remote.webelement import WebElement
 from servers import MEMORY, Server, program
 from signed_in import Nginx, SignedInPage
 from with_page import CHECK, PICTURES
@@ -49,20 +51,37 @@ class Person:
 
     def fill(self, act: str, **fields: str) -> None:
         """Fills the fields of a form in and sends it off, as somebody does who types and clicks."""
-        form = self.browser.driver.find_element("css selector", f"form[action='/.act/{act}']:not(#act)")
+        self.write(act, **fields)
+        self.send(act)
+
+    def write(self, act: str, **fields: str) -> WebElement:
+        """Fills the fields of a form in. Gives the last one."""
+        form = field = self.form(act)
         for name, value in fields.items():
             field = form.find_element("css selector", f"[name={name}]:not([type=hidden])")
             if field.tag_name == "input" and field.get_attribute("type") != "file":
                 field.clear()
             field.send_keys(value)
-        form.find_element("css selector", "button").click()
+        return field
+
+    def send(self, act: str) -> None:
+        """Sends a form off, and waits for what it came to."""
+        self.form(act).find_element("css selector", "button").click()
+        self.is_told()
+
+    def form(self, act: str) -> WebElement:
+        """The first form for an act."""
+        return self.browser.driver.find_element("css selector", f"form[action='/.act/{act}']:not(#act)")
+
+    def is_told(self) -> None:
+        """Waits until a page says what an act came to."""
         until(lambda: bool(self.browser.value("document.readyState == 'complete' && !!document.querySelector('.told')")), 20)
 
     def press(self, words: str) -> None:
         """Presses a button with these words."""
         found = [each for each in self.browser.driver.find_elements("css selector", "button") if each.text == words]
         found[0].click()
-        until(lambda: bool(self.browser.value("document.readyState == 'complete' && !!document.querySelector('.told')")), 20)
+        self.is_told()
 
     def take_away(self, selector: str, name: str) -> bytes:
         """What comes of a link to download."""
@@ -72,8 +91,8 @@ class Person:
         return (self.folder / name).read_bytes()
 
 
-class Day(unittest.TestCase):
-    """Anna and Ben design an engine."""
+class WithDesigners(unittest.TestCase):
+    """A vault with a store and its server, the page, and nginx before that, at which Anna signs in."""
 
     def setUp(self) -> None:
         folder = tempfile.TemporaryDirectory(prefix="vault-day-", dir=MEMORY)
@@ -86,13 +105,20 @@ class Day(unittest.TestCase):
         self.store = f"file://{self.folder}/store"
         Setting(whoever_runs_it).set(self.store)
         whoever_runs_it.close()
-        self.page = SignedInPage(self.server.port, self.folder, "--store", self.store, "--log", str(self.folder / "changes.log"),
-                                 "--title", "Plant 1")
-        self.addCleanup(lambda: self.assertEqual(self.page.end().replace(
-            b"vaultd-page: no system log takes lines at /dev/log: No such file or directory\n", b""), b""))
+        self.page = self.started()
+        self.addCleanup(lambda: self.ended())
         self.nginx = Nginx(NAMES, self.page.socket_path)
         self.addCleanup(self.nginx.close)
         self.anna = self.person("anna")
+
+    def started(self, socket_path: Optional[Path] = None) -> SignedInPage:
+        """The page's program."""
+        return SignedInPage(self.server.port, self.folder, "--store", self.store, "--log", str(self.folder / "changes.log"), "--title", "Plant 1",
+                            socket_path=socket_path)
+
+    def ended(self) -> None:
+        """Ends it, and looks whether it complained of anything."""
+        self.assertEqual(self.page.end().replace(b"vaultd-page: no system log takes lines at /dev/log: No such file or directory\n", b""), b"")
 
     def person(self, name: str) -> Person:
         """A designer at a browser of their own."""
@@ -114,6 +140,17 @@ class Day(unittest.TestCase):
             self.assertEqual(person.browser.value(CHECK), [], (name, window))
             person.browser.picture(PICTURES / f"acts-{name}-{window}.png")
         person.browser.show(1280, 800)
+
+    def at_a_part(self, person: Person) -> None:
+        """Makes a part, and has a designer check it out."""
+        for act, fields in (("make", {"place": "/", "name": "engine"}), ("make", {"place": "/engine", "name": "block"}),
+                            ("make", {"place": "/engine/block", "name": "part"}), ("checkout", {"place": "/engine/block/part", "mode": "w"})):
+            status, told = self.page.act(person.name, act, **fields)
+            self.assertEqual(status, 303, told)
+
+
+class Day(WithDesigners):
+    """Anna and Ben design an engine."""
 
     def test_a_day(self) -> None:
         """The day of the tutorial without a terminal."""
@@ -255,16 +292,68 @@ class Day(unittest.TestCase):
         self.assertEqual([words for words in anna.browser.complaints() if "/.events" not in words], [])
 
 
-class Large(Day):
+class UnderTheHand(WithDesigners):
+    """What somebody writes, chooses or presses while the page is read again or changes."""
+
+    def test_what_is_written_stays(self) -> None:
+        """The page's program is started again while a form is filled in: what stands in it stays, nothing is sent meanwhile, and then it is."""
+        anna = self.anna
+        self.at_a_part(anna)
+        anna.open("/.claim/c2")
+        anna.write("upload", file=self.file("part", b"new"))
+        why = anna.write("checkin", why="longer str")
+        top = why.rect["y"]
+        self.ended()
+        anna.shows("#state", "The page asks again by itself, and sends nothing until then.", 15)
+        self.assertEqual((why.rect["y"], self.anna.browser.value(CHECK)), (top, []))
+        anna.browser.picture(PICTURES / "acts-away-1280.png")
+        why.send_keys("oke\n")
+        self.page = self.started(self.page.socket_path)
+        until(lambda: anna.words("#pill") == "live", 30)
+        why.send_keys(", lighter")
+        self.assertEqual(why.get_attribute("value"), "longer stroke, lighter")
+        anna.send("upload")
+        anna.shows(".told", "/engine/block/part is a draft in c2.")
+        anna.fill("checkin", why="longer stroke")
+        anna.shows(".told", "c2 is checked in: 1 new version.")
+
+    def test_what_is_pressed_stays(self) -> None:
+        """A button that is pressed is there until it is let go, whatever changes meanwhile, and then it does what it says."""
+        anna = self.anna
+        self.at_a_part(anna)
+        anna.open("/.mine")
+        button = next(each for each in anna.browser.driver.find_elements("css selector", "button") if each.text == "Give up")
+        anna.browser.press(button)
+        for name in ("ben", "cara"):
+            self.assertEqual(self.page.act(name, "checkout", place="/engine")[0], 303)
+        self.assertEqual(self.page.act("anna", "note", claim="c2", note="until noon")[0], 303)
+        time.sleep(0.6)
+        self.assertEqual(anna.words("#asked"), "Nobody waits for you.")
+        anna.browser.let_go()
+        anna.is_told()
+        anna.shows(".told", "c2 is given up, with its drafts.")
+
+    def test_what_can_be_done_now(self) -> None:
+        """Once what waits is held, the page has the forms for what is held."""
+        anna = self.anna
+        self.at_a_part(anna)
+        self.page.act("ben", "checkout", place="/engine/block/part")
+        ben = self.person("ben")
+        ben.open("/.claim/c3")
+        ben.write("note", note="I am nex")
+        ben.shows("main", "It waits. This page tells when it is held.")
+        self.page.act("anna", "abandon", claim="c2")
+        ben.shows("main", "It has no drafts yet.")
+        self.assertEqual(ben.browser.value("document.activeElement.value"), "I am nex")
+
+
+class Large(WithDesigners):
     """Long files, by the page's socket."""
 
-    def test_a_day(self) -> None:
+    def test_two_hundred_megabytes(self) -> None:
         """Two hundred megabytes go through nginx and the page into the store with little memory; killed in the middle nothing is left of them."""
         anna = self.anna
-        for act, fields in (("make", {"place": "/", "name": "engine"}), ("make", {"place": "/engine", "name": "block"}),
-                            ("make", {"place": "/engine/block", "name": "part"}), ("checkout", {"place": "/engine/block/part", "mode": "w"})):
-            status, told = self.page.act("anna", act, **fields)
-            self.assertEqual(status, 303, told)
+        self.at_a_part(anna)
         path = self.folder / "large"
         with open(path, "wb") as file:
             for number in range(200):
@@ -290,8 +379,6 @@ class Large(Day):
         until(lambda: list(incoming.iterdir()) == [], 20)
         self.assertEqual(sum(1 for each in (self.folder / "store" / "sha256").rglob("*") if each.is_file()), kept)
         until(lambda: self.page.put("anna", "c2", "/engine/block/part", {"x": b"x"})[0] == 303, 20)
-
-    test_by_keyboard_and_without_scripts = test_strangers_words = None  # type: ignore[assignment]
 
 
 if __name__ == "__main__":

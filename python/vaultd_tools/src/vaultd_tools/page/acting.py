@@ -12,7 +12,7 @@ from typing import TypeVar
 
 from vault.client import Client
 from vault.client.memory import Command
-from vault.errors import MisusedError, RefusedError, VaultError
+from vault.errors import MisusedError, RefusedError, UnreachableError, VaultError
 from vault.protocol.grammar import UNKNOWN_COMMAND, under
 from vault.protocol.replies import Reply
 from vault.protocol.standing import Standing
@@ -26,7 +26,8 @@ from vaultd_tools.gate.log import Log, UnwrittenError
 THREADS = 24
 # Uploads have threads of their own, since each waits for its browser.
 UPLOADS = 48
-PATIENCE_SECONDS = 8.0
+# How long an act waits for a server that is away, and how long a page that is to be shown does.
+PATIENCE_SECONDS, GLANCE_SECONDS = 8.0, 1.0
 KEEPS_FREE = 60_000_000
 Fields = Mapping[str, str]
 Found = TypeVar("Found")
@@ -105,21 +106,21 @@ class Acting:
         self.pool, self.uploads = ThreadPoolExecutor(THREADS, "act"), ThreadPoolExecutor(UPLOADS, "upload")
         self._turns: dict[str, asyncio.Lock] = {}
 
-    async def perform(self, name: str, act: Callable[[Designer], Found]) -> Found:
+    async def perform(self, name: str, act: Callable[[Designer], Found], patience: float = PATIENCE_SECONDS) -> Found:
         """What an act of a designer comes to. It is done to its end, also where whoever asked is gone."""
         turn = self._turns.setdefault(name, asyncio.Lock())
 
         async def in_turn() -> Found:
             async with turn:
-                return await asyncio.get_running_loop().run_in_executor(self.pool, self._performed, name, act)
+                return await asyncio.get_running_loop().run_in_executor(self.pool, self._performed, name, act, patience)
         return await asyncio.shield(asyncio.ensure_future(in_turn()))
 
     async def beside(self, name: str, act: Callable[[Designer], Found]) -> Found:
         """The same of one that takes as long as a browser sends, beside other acts of the designer."""
-        return await asyncio.get_running_loop().run_in_executor(self.uploads, self._performed, name, act)
+        return await asyncio.get_running_loop().run_in_executor(self.uploads, self._performed, name, act, PATIENCE_SECONDS)
 
-    def _performed(self, name: str, act: Callable[[Designer], Found]) -> Found:
-        client = Designer(name, self.host, self.port, self.folder, PATIENCE_SECONDS)
+    def _performed(self, name: str, act: Callable[[Designer], Found], patience: float) -> Found:
+        client = Designer(name, self.host, self.port, self.folder, patience)
         client.record = self.record
         try:
             return act(client)
@@ -205,6 +206,8 @@ def drafts_of(client: Designer, claims: list[str]) -> dict[str, tuple[str, ...]]
     for claim in claims:
         try:
             found[claim] = tuple(client.drafts(claim))
+        except UnreachableError:
+            raise
         except VaultError:
             found[claim] = ()
     return found

@@ -12,9 +12,9 @@ from urllib.parse import parse_qsl
 
 from aiohttp import BodyPartReader, MultipartReader, web
 
-from vault.errors import MisusedError, VaultError
+from vault.errors import MisusedError, UnreachableError, VaultError
 from vault.protocol.grammar import PLACE
-from vaultd_tools.page.acting import ACTS, Acting, Designer, drafts_of
+from vaultd_tools.page.acting import ACTS, GLANCE_SECONDS, Acting, Designer, drafts_of
 from vaultd_tools.page.doors import HEADERS, NOT_KEPT, TAKE_SECONDS, Door, Refusal
 from vaultd_tools.page.downloads import Download, version_of, zip_of
 from vaultd_tools.page.identity import Identity, own_page_alone
@@ -72,13 +72,16 @@ class SignedIn:
         return self.told.get((name, fields_in(query).get("told", "")))
 
     async def _learn_drafts(self, path: str, name: str) -> None:
-        """Asks of which parts there are drafts, for a page that shows that."""
+        """Asks of which parts there are drafts, for a page that shows that. Where the vault is away the page shows what was known."""
         if path != MINE and not path.startswith("/.claim/"):
             return
         await self.page.watcher.fresh()
+        if self.page.watcher.model.link.kind != "live":
+            return
         claims = [claim.name for claim in self.page.watcher.model.claims if claim.owner == name and claim.name[0] == "c"]
         with contextlib.suppress(VaultError):
-            self.page.source.drafts[name] = await self.acting.perform(name, lambda client: drafts_of(client, claims)) if claims else {}
+            drafts = self.page.source.drafts
+            drafts[name] = await self.acting.perform(name, lambda client: drafts_of(client, claims), GLANCE_SECONDS) if claims else {}
 
     # Acts
 
@@ -230,7 +233,7 @@ class SignedIn:
             download = await self.acting.perform(name, made)
             return await self._pour(request, download)
         except VaultError as error:
-            raise Refusal(404, str(error)) from error
+            raise Refusal(503 if isinstance(error, UnreachableError) else 404, str(error)) from error
         finally:
             self.downloading[name] -= 1
 

@@ -7,12 +7,15 @@
   const WITHOUT_STREAM = 15;
   const SILENT = 25;
   const LONGEST = 15;
+  // For so long at most nothing moves under a pointer that is pressed; and the forms of a page last for a day, so it is read again before that.
+  const PRESSED = 3;
+  const OLD = 6 * 3600;
   const byId = id => document.getElementById(id);
   // Two clocks, since one of them may be set, and the other one stands still while the machine sleeps.
   const clocks = () => [performance.now(), Date.now()];
   // `right` is when what stands here was surely right, `sure` whether this stream has said so.
   let source = null, sure = false, stateBefore = null, heard = clocks(), right = performance.timeOrigin, failures = 0, retry = null;
-  let again = null, more = false, waiting = [], known = true, lostAt = null;
+  let again = null, more = false, waiting = [], known = true, lostAt = null, pressedAt = -Infinity, read = Date.now();
 
   // Times
 
@@ -140,7 +143,7 @@
       }
     } finally {
       loading--;
-      if (!loading && !again) try { late(); } catch { readNow(); }
+      takeIn();
     }
   }
 
@@ -174,26 +177,49 @@
     const page = new DOMParser().parseFromString(await answer.text(), "text/html");
     if (!page.getElementById("state")) throw new Error(`the page server said ${answer.status}`);
     if (answer.status === 404) { location.reload(); return; }
+    while (isPressed()) await new Promise(go => setTimeout(go, 50));
     for (const id of ["state", "pill"]) byId(id).replaceChildren(...page.getElementById(id).childNodes);
     known = answer.ok;
     if (known) takeOver(page, asked);
     showTimes(document);
   }
 
+  // Forms are alike by what they are for, and one is begun where somebody has chosen or written something, or is about to.
+  const same = form => [form.action, form.querySelector("[type=hidden][name=place]")?.value, !!form.querySelector("[webkitdirectory]")].join(" ");
+  const isBegun = form => form.contains(document.activeElement) || [...form.elements].some(
+    field => field.selectedIndex > 0 || field.type !== "hidden" && "defaultValue" in field && field.value !== field.defaultValue);
+
   function takeOver(page, asked) {
-    keepingFocus(byId("main"), () => { byId("main").replaceChildren(...page.getElementById("main").childNodes); });
+    const main = byId("main"), begun = new Map([...main.querySelectorAll("form")].filter(isBegun).map(form => [same(form), form]));
+    const token = page.querySelector("[name=token]")?.value;
+    keepingFocus(main, () => {
+      main.replaceChildren(...page.getElementById("main").childNodes);
+      for (const form of main.querySelectorAll("form")) begun.get(same(form)) && form.replaceWith(begun.get(same(form)));
+    });
+    if (token) for (const field of document.querySelectorAll("[name=token]")) field.value = token;
     data.revision = page.body.dataset.revision;
     data.run = page.body.dataset.run;
-    right = asked;
+    right = read = asked;
     try { late(); } catch { more = true; }
     openAsBefore().catch(() => {});
-    tellOfHeld();
+    tellOfHeld(true);
   }
 
-  // What was told while the page was read.
+  // What was told while the page was read, or something was pressed.
   function late() {
     waiting.splice(0).filter(message => message.revision > Number(data.revision)).forEach(apply);
   }
+
+  const isPressed = () => performance.now() - pressedAt < 1000 * PRESSED;
+
+  function takeIn() {
+    if (again || loading || isPressed()) return;
+    try { late(); } catch { readNow(); }
+  }
+
+  // A click comes about only if what was pressed still stands there when it is let go.
+  addEventListener("pointerdown", () => { pressedAt = performance.now(); }, true);
+  for (const kind of ["pointerup", "pointercancel"]) addEventListener(kind, () => setTimeout(() => { pressedAt = -Infinity; takeIn(); }), true);
 
   async function readOnceMore() {
     try {
@@ -236,7 +262,7 @@
       words.className = "alarm";
       words.dataset.lost = "";
       strong.textContent = `No page server since ${spoken(lostAt)}:`;
-      words.append(strong, ` nothing answers at ${location.host}. What stands here was so then. The page asks again by itself.`);
+      words.append(strong, ` nothing answers at ${location.host}. What stands here was so then. The page asks again by itself, and sends nothing until then.`);
       state.replaceChildren(words);
     } else if (!lostAt && shown) {
       state.replaceChildren(...stateBefore);
@@ -252,11 +278,8 @@
   }
 
   function hear(message) {
-    if (again || loading) {
-      waiting.push(message);
-    } else if (message.revision > Number(data.revision)) {
-      try { apply(message); } catch { readNow(); }
-    }
+    waiting.push(message);
+    takeIn();
     isThere();
   }
 
@@ -316,6 +339,8 @@
     if (source) source.ping();
     if (source && Math.max(...clocks().map((now, clock) => now - heard[clock])) > 1000 * SILENT) lose();
     if (data.watch) pill();
+    takeIn();
+    if (data.designer && source && !again && Date.now() - read > 1000 * OLD) readNow();
     showTimes(document);
   }, 5000);
 
@@ -332,6 +357,8 @@
     const summary = clicked.target.closest("summary");
     if (summary && !clicked.target.closest("a")) summary.parentElement.dataset.touched = "";
   });
+  // What is sent to nobody would be lost with what somebody wrote.
+  document.addEventListener("submit", sent => { if (lostAt && sent.target.method === "post") sent.preventDefault(); });
   document.addEventListener("keydown", pressed => {
     const typing = /^(INPUT|TEXTAREA|SELECT)$/.test(document.activeElement.tagName);
     if (pressed.key === "/" && !typing && !pressed.ctrlKey && !pressed.metaKey && !pressed.altKey) {
@@ -360,9 +387,12 @@
 
   let before = own();
 
-  function tellOfHeld() {
+  function tellOfHeld(fresh) {
     const now = own(), held = [...before].filter(([claim, was]) => !was && now.get(claim) === true).map(([claim]) => claim);
+    const other = now.size !== before.size || [...now].some(([claim, is]) => before.get(claim) !== is);
     before = now;
+    // What can be done with it is another thing now.
+    if (other && !fresh && document.querySelector(".acts")) setTimeout(readNow);
     if (!held.length) return;
     const words = `${held.join(", ")} ${held.length === 1 ? "is" : "are"} held`;
     document.title = `(${words}) ${title}`;
