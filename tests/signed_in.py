@@ -130,9 +130,10 @@ class SignedInPage(PageServer):
         assert found is not None, body[:2000]
         return ("refused: " if found[1] else "") + html.unescape(re.sub(r"<[^>]*>", "", found[2]))
 
-    def put(self, name: str, claim: str, place: str, files: Dict[str, bytes], token: Optional[str] = None) -> Tuple[int, str]:
+    def put(self, name: str, claim: str, place: str, files: Dict[str, bytes], token: Optional[str] = None, **fields: str) -> Tuple[int, str]:
         """What an upload comes to."""
-        kind, body = multipart({"token": self.token(name) if token is None else token, "back": "/.mine", "claim": claim, "place": place}, files)
+        token = self.token(name) if token is None else token
+        kind, body = multipart({"token": token, "back": "/.mine", "claim": claim, "place": place, **fields}, files)
         status, headers, told = self.ask(name, "/.act/upload", "POST", body, Origin="http://127.0.0.1", Content_Type=kind)
         return status, self.told(name, headers["location"]) if status == 303 else told.decode("utf-8")
 

@@ -22,6 +22,7 @@ from tries import told
 from with_page import CARD, PART, WithPage, fill
 
 from vault.store.card import Card
+from vault.store.naming import name_place, spell_name
 from vaultd_tools.page import doors, render, search, streams, views, watch, web
 from vaultd_tools.page.model import Model
 from vaultd_tools.page.render import address, in_bytes
@@ -179,6 +180,32 @@ class Reading(WithPage):
         self.assertIn('href="/.search?q=wing&amp;from=100"', first)
         self.assertIn('href="/.search?q=wing"', second)
         self.assertNotIn("More places", third)
+
+    def test_real_names(self) -> None:
+        """A project's and an assembly's real name stands beside its place, and what keeps it is no part; with anything else in it, it is one."""
+        self.assertIn("1 project, 1 assembly, 1 part.", self.text("/"))
+        stream = self.stream("/")
+        for place, name in (("/engine", "Motor Nr. 1"), ("/engine/block", "Zylinder (Guss)")):
+            kept = name_place(place)
+            if kept.count("/") == 3 and not self.anna.is_there(kept.rpartition("/")[0]):
+                self.anna.make(kept.rpartition("/")[0])
+            self.anna.make(kept)
+            self.check_in(spell_name(name), kept)
+        stream.change("is called", "Zylinder (Guss)", seconds=25)
+        until(lambda: "engine Motor Nr. 1" in self.text("/"), 25)
+        text = self.text("/")
+        for words in ("1 project, 1 assembly, 1 part.", "engine Motor Nr. 1", "block Zylinder (Guss)", "/engine is called Motor Nr. 1"):
+            self.assertIn(words, text)
+        for page in (self.page.page("/"), self.page.page("/engine"), self.page.page("/.search?q=name"), self.page.get("/.branch?at=/engine")[2]):
+            self.assertNotIn("-name-", page)
+        self.assertIn("block Zylinder (Guss)", self.text("/engine/block"))
+        found = self.text("/.search?q=zylinder+guss")
+        self.assertIn("1 thing found", found)
+        self.assertIn("/engine/block name Zylinder (Guss)", found)
+        self.check_in(b"no name", "/engine/block/-name-")
+        until(lambda: "1 project, 1 assembly, 2 parts." in self.text("/"), 5)
+        self.assertNotIn("Zylinder", re.sub("Lately.*How full", "", self.text("/")))
+        self.assertIn("1 thing found", self.text("/.search?q=-name-"))
 
     def test_names_that_the_page_has_itself(self) -> None:
         """Places may have any name: each has an address of its own, and no page takes another's."""

@@ -21,8 +21,10 @@ from signed_in import SignedInPage, multipart
 from vault import Client
 from vault.store.card import Card
 from vault.store.setting import Setting
+from vault.store.naming import survey
 from vaultd_tools.page.acting import PATIENCE_SECONDS
 from vaultd_tools.page.identity import TOKEN_SECONDS, Identity
+from vaultd_tools.page.signed_in import UPLOADS_AT_ONCE
 
 PART = "/engine/block/piston"
 FORM = "application/x-www-form-urlencoded"
@@ -251,6 +253,88 @@ class Uploads(WithActs):
         for path in self.store.glob("sha256/??/??/*"):
             self.assertEqual(hashlib.sha256(path.read_bytes()).hexdigest(), path.name)
         self.assertEqual([path for path in self.kept() if path.startswith("incoming/")], [])
+
+    def test_as_before(self) -> None:
+        """What is as a part's last version makes no draft; a part's file keeps its name; and what was put before a break is found again."""
+        self.page.act("anna", "checkout", place="/engine/block")
+        self.page.put("anna", "c2", "/engine/block", {"Kolben 80.SLDPRT": b"a", "rod": b"b"})
+        self.assertEqual(self.page.put("anna", "c2", "/engine/block", {"rod": b"c"})[1], "/engine/block/rod is a draft in c2.")
+        self.page.act("anna", "checkin", claim="c2")
+        self.page.act("anna", "checkout", place="/engine/block")
+        before = self.kept()
+        self.assertEqual(self.page.put("anna", "c3", "/engine/block", {"Kolben 80.SLDPRT": b"a", "rod": b"c"})[1],
+                         "/engine/block/kolben_80_sldprt, /engine/block/rod are as before, so nothing was put there.")
+        self.assertEqual((self.anna.drafts("c3"), self.kept()), ([], before))
+        self.assertEqual(self.page.put("anna", "c3", "/engine/block/kolben_80_sldprt", {"Kolben v2.SLDPRT": b"d"})[1],
+                         "/engine/block/kolben_80_sldprt is a draft in c3. Its file is called Kolben 80.SLDPRT still.")
+        self.assertEqual(self.page.put("anna", "c3", "/engine/block", {"Kolben 80.SLDPRT": b"a"})[1],
+                         "/engine/block/kolben_80_sldprt is a draft in c3.")
+        self.assertEqual(sorted(self.anna.names("/engine/block")), ["kolben_80_sldprt", "piston", "rod"])
+
+    def test_a_folder(self) -> None:
+        """Its folders become assemblies with their real names, its files parts; put again it makes nothing anew; and it comes back as it was."""
+        self.page.act("anna", "checkout", place="/engine")
+        self.assertIn("/engine is a project, and parts stand in assemblies alone", self.page.put("anna", "c2", "/engine", {"x": b"x"})[1])
+        self.assertIn(f"{PART} is a part. Put a folder into an assembly", self.page.put("anna", "c2", PART, {"a/x": b"x"}, folder="1")[1])
+        self.assertEqual(self.anna.names("/engine"), ["block"])
+        files = {"Motor/.vaultignore": b"*.log\nalt/\n", "Motor/notes.txt": b"no assembly", "Motor/Zylinder/Kolben 80.SLDPRT": b"a",
+                 "Motor/Geh\u00e4use (Guss)/Deckel.step": b"b", "Motor/Geh\u00e4use (Guss)/innen/Ring": b"c", "Motor/Geh\u00e4use (Guss)/x.log": b"d",
+                 "Motor/Zylinder/alt/x": b"e", "Motor/Zylinder/~$Ring.docx": b"f", "Motor/Zylinder/con.txt": b"g", "Motor/Zylinder/.git/x": b"h",
+                 "Motor/a/b/c/d/e/f/g": b"i", "Motor/a/../x": b"j"}
+        told = self.page.put("anna", "c2", "/engine", files, folder="1")[1]
+        block, cast = "/engine/zylinder", "/engine/geh__use__guss_"
+        self.assertTrue(told.startswith(f"{block}/kolben_80_sldprt, {cast}/deckel_step, {cast}/innen/ring are drafts in c2. Made 3 assemblies:"
+                                        f" {block}, {cast}, {cast}/innen. Left out: notes.txt (stands in no assembly's folder"), told)
+        self.assertIn("Zylinder/con.txt (is a device to Windows, and no file: rename it)", told)
+        self.assertIn("and 5 more.", told)
+        again = self.page.put("anna", "c2", "/engine", files, folder="1")[1]
+        self.assertTrue(again.startswith(f"{block}/kolben_80_sldprt, {cast}/deckel_step, {cast}/innen/ring are drafts in c2. Left out:"), again)
+        self.assertEqual(self.page.act("anna", "checkin", claim="c2", why="first")[1], "c2 is checked in: 5 new versions.")
+        surveyed = survey(self.anna, "/engine")
+        self.assertEqual(surveyed.names, {block: "Zylinder", cast: "Geh\u00e4use (Guss)"})
+        self.page.act("anna", "checkout", place="/engine")
+        self.assertIn("are as before, so nothing was put there.", self.page.put("anna", "c3", "/engine", files, folder="1")[1])
+        self.assertEqual((self.anna.drafts("c3"), survey(self.anna, "/engine")), ([], surveyed))
+        with zipfile.ZipFile(io.BytesIO(self.page.ask("ben", "/.zip/engine")[2])) as archive:
+            self.assertEqual({name: archive.read(name) for name in archive.namelist()}, {
+                "Zylinder/Kolben 80.SLDPRT": b"a", "Geh\u00e4use (Guss)/Deckel.step": b"b", "Geh\u00e4use (Guss)/innen/Ring": b"c"})
+        self.assertIn("Geh%C3%A4use%20%28Guss%29.zip", self.page.ask("ben", "/.zip" + cast)[1]["content-disposition"])
+
+    def test_a_folder_that_is_too_large(self) -> None:
+        """What a check-out takes is put, what to do then is told, and the rest goes in behind that."""
+        self.page.act("anna", "checkout", place="/engine/block")
+        files = {f"Block/{'ab'[number // 35]}/{number:02}": b"%d" % number for number in range(70)}
+        self.assertIn("c2 has 64 drafts, and a check-out has no more.", self.page.put("anna", "c2", "/engine/block", files, folder="1")[1])
+        self.assertEqual(self.page.act("anna", "checkin", claim="c2", why="first")[1], "c2 is checked in: 64 new versions.")
+        self.page.act("anna", "checkout", place="/engine/block")
+        told = self.page.put("anna", "c3", "/engine/block", files, folder="1")[1]
+        self.assertIn("and 3 more are drafts in c3.", told)
+        self.assertEqual(len(self.anna.drafts("c3")), 6)
+
+    def test_many_at_once(self) -> None:
+        """So many designers put files at once, in little memory; one more is told to wait."""
+        names = [f"d{number}" for number in range(UPLOADS_AT_ONCE + 1)]
+        tokens = {}
+        for name in names:
+            self.page.act("anna", "make", place="/engine/block", name=name)
+            self.page.act(name, "checkout", place=f"/engine/block/{name}")
+            tokens[name] = self.page.token(name)
+        claims = {claim.owner: claim.claim for claim in self.anna.holders("/engine/block")}
+        before = self.page.memory()
+        with contextlib.ExitStack() as stack:
+            for name in names[:-1]:
+                kind, body = multipart({"token": tokens[name], "claim": claims[name], "place": f"/engine/block/{name}"}, {"x": b"x" * 2_900_000})
+                client = stack.enter_context(socket.socket(socket.AF_UNIX))
+                client.connect(str(self.page.socket_path))
+                head = (f"POST /.act/upload HTTP/1.1\r\nHost: 127.0.0.1\r\nX-Vault-Designer: {name}\r\nOrigin: http://127.0.0.1\r\n"
+                        f"Content-Type: {kind}\r\nContent-Length: {len(body)}\r\n\r\n")
+                client.sendall(head.encode() + body[:-1000])
+            until(lambda: sum(path.startswith("incoming/") for path in self.kept()) == UPLOADS_AT_ONCE, 20)
+            last = names[-1]
+            self.assertEqual(self.page.put(last, claims[last], f"/engine/block/{last}", {"x": b"x"}, tokens[last])[0], 503)
+            self.assertLess(self.page.memory() - before, 90_000_000)
+        until(lambda: not any(path.startswith("incoming/") for path in self.kept()), 20)
+        until(lambda: self.page.put(last, claims[last], f"/engine/block/{last}", {"x": b"x"}, tokens[last])[0] == 303, 20)
 
     def test_refused(self) -> None:
         """What can't be put is told, and leaves no draft and nothing in the store."""

@@ -78,10 +78,14 @@ class Person:
         until(lambda: bool(self.browser.value("document.readyState == 'complete' && !!document.querySelector('.told')")), 20)
 
     def press(self, words: str) -> None:
+        """Presses a button with these words, and waits for what that came to."""
+        self.press_at_once(words)
+        self.is_told()
+
+    def press_at_once(self, words: str) -> None:
         """Presses a button with these words."""
         found = [each for each in self.browser.driver.find_elements("css selector", "button") if each.text == words]
         found[0].click()
-        self.is_told()
 
     def take_away(self, selector: str, name: str) -> bytes:
         """What comes of a link to download."""
@@ -345,6 +349,59 @@ class UnderTheHand(WithDesigners):
         self.page.act("anna", "abandon", claim="c2")
         ben.shows("main", "It has no drafts yet.")
         self.assertEqual(ben.browser.value("document.activeElement.value"), "I am nex")
+
+
+class Files(WithDesigners):
+    """Files and folders that go through a browser's own dialogue."""
+
+    def incoming(self) -> List[str]:
+        """The files that come into the store at this moment."""
+        return [each.name for each in (self.folder / "store" / "incoming").iterdir()]
+
+    def test_a_folder(self) -> None:
+        """A folder is chosen, its folders become assemblies, and the tree shows them by their real names."""
+        anna = self.anna
+        self.at_a_part(anna)
+        self.page.act("anna", "make", place="/engine", name="gear")
+        self.page.act("anna", "checkout", place="/engine/gear")
+        for name in ("Welle.step", "Gehäuse (Guss)/Deckel.step", "Gehäuse (Guss)/innen/Ring", "Gehäuse (Guss)/x.log", ".git/HEAD", ".vaultignore"):
+            path = self.folder / "Getriebe" / name
+            path.parent.mkdir(parents=True, exist_ok=True)
+            path.write_text("*.log\n" if name == ".vaultignore" else name, "utf-8")
+        anna.open("/engine/gear")
+        anna.browser.value("new Promise(go => setTimeout(go, 1000))")
+        anna.browser.driver.find_element("css selector", "input[webkitdirectory]").send_keys(str(self.folder / "Getriebe"))
+        anna.browser.driver.find_element("css selector", "form:has([webkitdirectory]) button").click()
+        anna.is_told()
+        cast = "/engine/gear/geh__use__guss_"
+        anna.shows(".told", f"Made 2 assemblies: {cast}, {cast}/innen. Left out: Gehäuse (Guss)/x.log (is ignored).")
+        self.page.act("anna", "checkin", claim="c3", why="all of it")
+        anna.open("/engine/gear")
+        anna.shows("#tree-words", "2 assemblies, 3 parts.")
+        anna.shows(f"[id='row:{cast}']", "geh__use__guss_ Gehäuse (Guss)")
+        self.pictures(anna, "folder")
+        self.assertEqual(anna.browser.complaints(), [])
+
+    def test_how_far_it_is(self) -> None:
+        """An upload shows how far it is. Stopped it leaves nothing, and what was chosen is there to be sent again."""
+        anna = self.anna
+        self.at_a_part(anna)
+        anna.open("/engine/block/part")
+        network = {"offline": False, "latency": 0, "downloadThroughput": -1}
+        anna.browser.driver.execute_cdp_cmd("Network.enable", {})
+        anna.browser.driver.execute_cdp_cmd("Network.emulateNetworkConditions", {**network, "uploadThroughput": 2_000_000})
+        anna.write("upload", file=self.file("large", b"x" * 12_000_000))
+        anna.form("upload").find_element("css selector", "button").click()
+        until(lambda: bool(anna.browser.value("(bar => bar && bar.value > 0 && bar.value < bar.max)(document.querySelector('progress'))")), 10)
+        anna.shows("form [data-told]", " of 12 MB")
+        self.assertEqual(anna.browser.value(CHECK), [])
+        anna.browser.picture(PICTURES / "acts-upload-1280.png")
+        anna.press_at_once("Stop")
+        anna.shows("form [data-told]", "Stopped. What was put before stands as drafts.")
+        until(lambda: self.incoming() == [], 30)
+        anna.browser.driver.execute_cdp_cmd("Network.emulateNetworkConditions", {**network, "uploadThroughput": -1})
+        anna.send("upload")
+        anna.shows(".told", "/engine/block/part is a draft in c2.")
 
 
 class Large(WithDesigners):

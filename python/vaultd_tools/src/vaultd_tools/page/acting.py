@@ -196,7 +196,7 @@ def check_in(acting: Acting, client: Designer, form: Fields) -> str:
         except MisusedError:
             if client.drafts(claim):
                 raise
-    made = client.checkin(claim)
+    made = acting.parts(client).checkin(claim)
     return f"{claim} is checked in: {made or 'no'} new version{'' if made == 1 else 's'}."
 
 

@@ -18,6 +18,7 @@ from vault.files.transfer import PIECE, Own, no_meter
 from vault.store.base import Store, StoreFaultError, compare, place_of
 from vault.store.card import Card, read_card
 from vault.store.folder_store import FolderStore
+from vault.store.naming import Surveyed, survey
 from vaultd_tools.page.acting import Acting, Designer
 
 # From here on a zip has longer fields, so its size isn't the sum of an empty one's and the files' any more.
@@ -50,23 +51,41 @@ def version_of(acting: Acting, client: Designer, place: str, number: int | None)
 
 
 def zip_of(acting: Acting, client: Designer, place: str) -> Download:
-    """All parts that have a version, in the place or beneath it, each in its last one, in folders as the places stand."""
-    _, parts = client.survey(place)
-    wanted = [(part, number) for part, number in parts.items() if number]
+    """All parts that have a version, in the place or beneath it, each in its last one, in folders by the real names of projects and assemblies."""
+    surveyed = survey(client, place)
+    wanted = [(part, number) for part, number in surveyed.numbers.items() if number]
     if not wanted:
         raise RefusedError(f"{place} has nothing to download yet: no part in it has a version.")
     store, archive, empty, sizes = acting.parts(client).store(), ZipStream(), ZipStream(), 0
     taken: dict[str, set[str]] = {}
+    folders = folders_of(place, surveyed, taken)
     for (part, _), content in zip(wanted, client.contents(wanted)):
-        card, folder, own = read_card(content), part[len(place.rstrip("/")) + 1:].rpartition("/")[0], part.rpartition("/")[2]
-        name = choose_name(card.name if card else own, own, taken.setdefault(folder, set()))
-        taken[folder].add(folded(name))
-        inside = f"{folder}/{name}" if folder else name
+        card, folder, own = read_card(content), folders.get(part.rpartition("/")[0], ""), part.rpartition("/")[2]
+        inside = folder + name_in(folder, card.name if card else own, own, taken)
         archive.add(pieces_of(store, card, acting.spool) if card else iter([content]), inside)
         empty.add(iter([b""]), inside)
         sizes += card.size if card else len(content)
     size = sizes + sum(map(len, empty))
-    return Download((place.rpartition("/")[2] or "vault") + ".zip", size if size < LARGE else None, iter(archive))
+    named = surveyed.names.get(place) or place.rpartition("/")[2] or "vault"
+    return Download(named + ".zip", size if size < LARGE else None, iter(archive))
+
+
+def folders_of(place: str, surveyed: Surveyed, taken: dict[str, set[str]]) -> dict[str, str]:
+    """The folders of assemblies in a zip, each by its real name."""
+    folders = {place: ""}
+    for each in sorted(surveyed.assemblies, key=lambda path: path.count("/")):
+        above, _, own = each.rpartition("/")
+        if each not in folders:
+            inside = folders.get(above or "/", "")
+            folders[each] = f"{inside}{name_in(inside, surveyed.names.get(each, own), own, taken)}/"
+    return folders
+
+
+def name_in(folder: str, wanted: str, own: str, taken: dict[str, set[str]]) -> str:
+    """A name that a folder in a zip doesn't have yet, also where capitals don't count."""
+    name = choose_name(wanted, own, taken.setdefault(folder, set()))
+    taken[folder].add(folded(name))
+    return name
 
 
 def pieces_of(store: Store | None, card: Card, spool: Path) -> Iterator[bytes]:

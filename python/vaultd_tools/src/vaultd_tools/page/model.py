@@ -7,7 +7,9 @@ from collections.abc import Iterator
 from dataclasses import dataclass, field
 from datetime import datetime, timezone
 
+from vault.files.names import OWN_NAME
 from vault.store.card import Card
+from vault.store.naming import is_of_names, named_by
 from vaultd_tools.files import Claim
 
 MAX_PLACES = 4096
@@ -33,11 +35,13 @@ def depth(path: str) -> int:
 
 @dataclass(frozen=True)
 class Version:
-    """A version of a part, by what it says of itself: the card of a longer file, or bytes without one."""
+    """A version of a part, by what it says of itself: the card of a longer file, or bytes without one, which may be the real name of the project or
+    the assembly that the part stands in."""
 
     number: int
     size: int
     card: Card | None
+    names: str = ""
 
 
 @dataclass
@@ -102,12 +106,15 @@ class Model:
         self.versions: OrderedDict[tuple[str, int], Version] = OrderedDict()
         self.read = 0
         self.read_bytes = 0
+        # The real names of projects and assemblies, where they have others than their places.
+        self.names: dict[str, str] = {}
         self.news: deque[News] = deque(maxlen=KEPT_NEWS)
 
     def forget(self) -> None:
         """Forgets all but the queue. When a claim in it came isn't known any more."""
         self.places.clear()
         self.versions.clear()
+        self.names.clear()
         self.read = self.read_bytes = 0
         self.since = {claim.name: Since(now(), False) for claim in self.claims}
 
@@ -129,19 +136,48 @@ class Model:
         place = self.places.get(path)
         if place is not None and version.number == place.versions:
             place.latest = version
+            if named_by(path):
+                self._take_name(named_by(path), version.names)
+
+    def _take_name(self, path: str, name: str) -> None:
+        """Takes the real name of a project or an assembly in."""
+        if name and name != self.names.get(path) and self.link.kind == "live":
+            self.tell("", f"is called {name}", path)
+        self.names[path] = name
+        if not name:
+            del self.names[path]
+
+    def is_hidden(self, path: str) -> bool:
+        """Whether a place is there for the real name of another one alone: what keeps that, or is to keep it, and the assembly around it."""
+        if not path.endswith(OWN_NAME) or not is_of_names(path):
+            return False
+        place = self.places.get(path)
+        if place is not None and not named_by(path):
+            return all(map(self.is_hidden, place.children))
+        return place is None or place.latest is None or bool(place.latest.names)
+
+    def title(self, path: str) -> str:
+        """The real name of a place, as far as it has another one."""
+        place = self.places.get(path)
+        return place.latest.card.name if place and place.latest and place.latest.card else self.names.get(path, "")
+
+    def beneath(self, path: str) -> list[str]:
+        """The places right beneath one that are there for themselves."""
+        place = self.places.get(path)
+        return [child for child in place.children if not self.is_hidden(child)] if place else []
 
     def tell(self, owner: str, does: str, place: str = "") -> None:
         """Notes something that changed."""
         self.news.appendleft(News(now(), owner, does, place))
 
     def walk(self, path: str) -> Iterator[Place]:
-        """The places at and beneath one, each before those beneath it."""
+        """The places at and beneath one that are there for themselves, each before those beneath it."""
         waiting = [path]
         while waiting:
             place = self.places.get(waiting.pop())
             if place is not None:
                 yield place
-                waiting.extend(reversed(place.children))
+                waiting.extend(reversed(self.beneath(place.path)))
 
     def owners(self) -> list[str]:
         """The designers who have claims, by name."""

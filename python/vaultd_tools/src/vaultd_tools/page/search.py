@@ -103,7 +103,7 @@ def results(source: Source, wanted: tuple[str, ...], first: int) -> Results:
     claims = [claim for claim in model.claims if has_all(wanted, as_written(" ".join(
         [claim.name, claim.owner, claim.note.decode("utf-8", "replace"), *(item[2:] for item in claim.items)])))]
     places = list(places_with(model, wanted))
-    shown = [found(place, version, wanted) for place, version in places[first:first + FOUND_SHOWN]]
+    shown = [found(place, version, wanted, model.names.get(place.path, "")) for place, version in places[first:first + FOUND_SHOWN]]
     return Results(rows.claims(claims[:FOUND_SHOWN]) if not first else (), designers[:FOUND_SHOWN] if not first else (), shown,
                    len(places) + len(designers) + len(claims), first, first + len(shown) if first + len(shown) < len(places) else 0,
                    len(model.versions), sum(place.versions for place in model.places.values()))
@@ -114,18 +114,19 @@ def places_with(model: Model, wanted: tuple[str, ...]) -> Iterator[tuple[Place, 
     newest such."""
     earlier: dict[str, Version] = {}
     for (path, number), version in model.versions.items():
-        if (path not in earlier or earlier[path].number < number) and has_all(wanted, text_of(path, version)):
+        if (path not in earlier or earlier[path].number < number) and has_all(wanted, text_of(path, version)) and not model.is_hidden(path):
             earlier[path] = version
-    last = [place for place in model.places.values() if place.path != "/" and has_all(wanted, text_of(place.path, place.latest))]
+    last = [place for place in model.places.values() if place.path != "/" and has_all(wanted, text_of(place.path, place.latest, model.names.get(
+        place.path, ""))) and not model.is_hidden(place.path)]
     yield from ((place, place.latest) for place in last)
     told = {place.path for place in last}
     yield from ((model.places[path], version) for path, version in earlier.items() if path not in told and path in model.places)
 
 
-def found(place: Place, version: Version | None, wanted: tuple[str, ...]) -> Found:
-    """Where a place has the words: in its path, and in its version's card."""
+def found(place: Place, version: Version | None, wanted: tuple[str, ...], name: str) -> Found:
+    """Where a place has the words: in its path, in its real name, and in its version's card."""
     card = version.card if version else None
-    texts = (("file", card.name), ("by", card.by), ("why", card.note)) if card else ()
+    texts = (("file", card.name), ("by", card.by), ("why", card.note)) if card else (("name", name),)
     return Found(place, marked(place.path, wanted), version if version and version.number != place.versions else None,
                  tuple(Why(what, marked(text, wanted)) for what, text in texts if any(word in as_written(text) for word in wanted)))
 
@@ -155,7 +156,7 @@ def has_all(wanted: Sequence[str], text: str) -> bool:
 
 
 @functools.lru_cache(32768)
-def text_of(path: str, version: Version | None) -> str:
-    """What a place is found by: its path, and the file's name, author and note of a version."""
+def text_of(path: str, version: Version | None, name: str = "") -> str:
+    """What a place is found by: its path and its real name, and the file's name, author and note of a version."""
     card = version.card if version else None
-    return as_written(" ".join([path] + ([card.name, card.by, card.note] if card else [])))
+    return as_written(" ".join([path, name] + ([card.name, card.by, card.note] if card else [])))

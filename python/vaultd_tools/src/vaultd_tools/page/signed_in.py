@@ -7,28 +7,26 @@ import asyncio
 import contextlib
 import secrets
 from collections import Counter, OrderedDict
-from collections.abc import AsyncIterator, Awaitable, Callable, Iterator
+from collections.abc import Awaitable, Callable, Iterator
 from urllib.parse import parse_qsl
 
-from aiohttp import BodyPartReader, MultipartReader, web
+from aiohttp import web
 
-from vault.errors import MisusedError, UnreachableError, VaultError
+from vault.errors import UnreachableError, VaultError
 from vault.protocol.grammar import PLACE
 from vaultd_tools.page.acting import ACTS, GLANCE_SECONDS, Acting, Designer, drafts_of
 from vaultd_tools.page.doors import HEADERS, NOT_KEPT, TAKE_SECONDS, Door, Refusal
 from vaultd_tools.page.downloads import Download, version_of, zip_of
 from vaultd_tools.page.identity import Identity, own_page_alone
+from vaultd_tools.page.incoming import FORM_SECONDS, Upload
 from vaultd_tools.page.mine import MINE, NOBODY, Told, Visitor
-from vaultd_tools.page.uploads import Broken, Coming, Target, check_room, file_name, received, target_of
 from vaultd_tools.page.views import view_at
 from vaultd_tools.page.web import Page, fields_in
 
 FORM_BYTES = 16384
-FIELD_BYTES = 4096
 FIELDS = 16
-FORM_SECONDS = 20.0
-PIECE = 1 << 18
 AT_ONCE = 4
+UPLOADS_AT_ONCE = 32
 TOLD_KEPT = 1024
 UPLOAD, FILE, ZIP = "/.act/upload", "/.file", "/.zip"
 KEPT_BY_BROWSER = {**HEADERS, "Content-Security-Policy": "default-src 'none'; sandbox", "Content-Type": "application/octet-stream",
@@ -40,7 +38,8 @@ class SignedIn:
 
     def __init__(self, page: Page, acting: Acting, identity: Identity, most_bytes: int):
         self.page, self.acting, self.identity, self.most_bytes = page, acting, identity, most_bytes
-        self.uploading: set[str] = set()
+        # Whose uploads are under way, and how many bytes each has.
+        self.uploading: dict[str, int] = {}
         self.downloading: Counter[str] = Counter()
         # What acts came to, by numbers that pages are asked with right after them.
         self.told: OrderedDict[tuple[str, str], Told] = OrderedDict()
@@ -149,70 +148,19 @@ class SignedIn:
             raise Refusal(413, f"The page takes at most {self.most_bytes:,} bytes at once (--most-bytes). Nothing was put.")
         if name in self.uploading:
             raise Refusal(429, "Another upload of yours is under way. Wait until it is through; nothing was put.")
-        self.uploading.add(name)
+        if len(self.uploading) >= UPLOADS_AT_ONCE:
+            raise Refusal(503, f"{UPLOADS_AT_ONCE} designers put files at this moment. Try again in a minute; nothing was put.",
+                          **{"Retry-After": "60"})
+        self.uploading[name] = length or 0
         try:
-            fields, told = await self._take_files(request, name, length or 0)
-        finally:
-            self.uploading.discard(name)
-        await self.page.watcher.caught_up()
-        return self._lead_back(name, fields.get("back", ""), told)
-
-    async def _take_files(self, request: web.BaseRequest, name: str, length: int) -> tuple[dict[str, str], Told]:
-        """Takes each file of an upload in. The fields of the form come first."""
-        fields: dict[str, str] = {}
-        put: list[str] = []
-        target: Target | None = None
-        try:
-            async for part in parts_of(await request.multipart()):
-                if not part.filename:
-                    fields[part.name or ""] = await text_of(part)
-                    continue
-                if target is None:
-                    self._look_at_token(fields.get("token", ""), name)
-                    target = await self._target(name, fields, length)
-                put.append(await self._take(name, target, part))
-        except VaultError as error:
-            before = f"{len(put)} file{'' if len(put) == 1 else 's'} before it {'is' if len(put) == 1 else 'are'} put. " if put else ""
-            return fields, Told(before + str(error), False)
+            upload = Upload(self.acting, name, self.most_bytes, sum(self.uploading.values()), self._look_at_token)
+            told = await upload.take(await request.multipart())
         except ValueError as error:
             raise Refusal(400, "This is no form of the page. Nothing was put.") from error
-        self._look_at_token(fields.get("token", ""), name)
-        if not put:
-            return fields, Told("No file was chosen, so nothing was put.", False)
-        shown = ", ".join(put[:3]) + (f" and {len(put) - 3} more" if len(put) > 3 else "")
-        return fields, Told(f"{shown} {'is a draft' if len(put) == 1 else 'are drafts'} in {fields.get('claim', '')}.", True)
-
-    async def _target(self, name: str, fields: dict[str, str], length: int) -> Target:
-        claim, place = fields.get("claim", ""), fields.get("place", "")
-        if PLACE.fullmatch(place) is None:
-            raise MisusedError(f"`{place}` is no place.")
-
-        def look(client: Designer) -> Target:
-            target = target_of(client, self.acting.parts(client).store, claim, place)
-            check_room(target.store, length)
-            return target
-        return await self.acting.perform(name, look)
-
-    async def _take(self, name: str, target: Target, part: BodyPartReader) -> str:
-        """Takes one file in. If its bytes end before they should, nothing is left of it."""
-        coming, file = Coming(self.most_bytes), file_name(part.filename or "")
-        taking = asyncio.ensure_future(self.acting.beside(name, lambda client: received(client, target, coming, file, self.acting.spool)))
-        try:
-            while not taking.done():
-                async with asyncio.timeout(TAKE_SECONDS):
-                    piece = await part.read_chunk(PIECE)
-                await coming.feed(bytes(piece))
-                if not piece:
-                    break
-        except BaseException as error:
-            with contextlib.suppress(VaultError):
-                await coming.feed(None)
-            with contextlib.suppress(VaultError):
-                await taking
-            if isinstance(error, (OSError, TimeoutError, web.HTTPException)):
-                raise Broken("The upload was broken off, and nothing was put.") from error
-            raise
-        return await taking
+        finally:
+            del self.uploading[name]
+        await self.page.watcher.caught_up()
+        return self._lead_back(name, upload.fields.get("back", ""), told)
 
     # Files that are taken away
 
@@ -260,24 +208,3 @@ class SignedIn:
 def next_of(pieces: Iterator[bytes]) -> bytes | None:
     """The next piece, if there is one; not all have bytes."""
     return next(pieces, None)
-
-
-async def parts_of(reader: MultipartReader) -> AsyncIterator[BodyPartReader]:
-    """The parts of a form, of which none has parts of its own."""
-    count = 0
-    while (part := await reader.next()) is not None:
-        count += 1
-        if not isinstance(part, BodyPartReader) or not part.filename and count > FIELDS:
-            raise ValueError("a form in a form")
-        yield part
-
-
-async def text_of(part: BodyPartReader) -> str:
-    """A field of a form."""
-    async with asyncio.timeout(FORM_SECONDS):
-        text = bytearray()
-        while piece := await part.read_chunk(FIELD_BYTES):
-            text += piece
-            if len(text) > FIELD_BYTES:
-                raise ValueError("a long field")
-    return text.decode("utf-8")

@@ -34,7 +34,7 @@ class Tree:
         row = self.rows.get(path)
         if row is None:
             place = self.model.places.get(path) or Place(path, None)
-            title = place.latest.card.name if place.latest and place.latest.card else ""
+            title = self.model.title(path)
             marks = tuple(dict.fromkeys(self.marks.get(path, ())))
             beneath = Beneath(self.held[path], self.waiting[path]) if self.held[path] or self.waiting[path] else None
             row = self.rows[path] = PlaceRow(path, place.name, place.kind, place.versions, title, marks, beneath)
@@ -46,8 +46,7 @@ class Tree:
 
     def children(self, path: str) -> list[str]:
         """The places right beneath one."""
-        place = self.model.places.get(path)
-        return place.children if place else []
+        return self.model.beneath(path)
 
     def put(self, pieces: Pieces) -> None:
         """Puts all beneath its top into the pieces of a page."""
@@ -55,7 +54,7 @@ class Tree:
             if place.path != self.top:
                 pieces.texts["row:" + place.path] = self.html(place.path)
             if not place.part:
-                pieces.branches[place.path] = tuple(place.children)
+                pieces.branches[place.path] = tuple(self.children(place.path))
 
     def branch(self, path: str) -> str:
         """A place with all beneath it, as it is put into the tree, or with a link to that."""

@@ -3,15 +3,16 @@
 from __future__ import annotations
 
 import asyncio
+import hashlib
 import os
 import queue
 import tempfile
-from collections.abc import Callable
-from dataclasses import dataclass, field
+from collections.abc import Callable, Sequence
+from dataclasses import dataclass
 from pathlib import Path
 
 from vault.errors import MisusedError, RefusedError, VaultError
-from vault.files.names import part_name, usable
+from vault.files.names import usable
 from vault.files.transfer import no_meter
 from vault.protocol.grammar import CONTENT_BYTES, under
 from vault.store.base import Kept, Store, StoreFaultError
@@ -19,12 +20,12 @@ from vault.store.card import Card, name_word, now, read_card
 from vault.store.folder_store import FolderStore
 from vault.store.setting import STORE_PLACE
 from vaultd_tools.page.acting import Designer
+from vaultd_tools.page.folders import ASSEMBLY, There
 
-PIECES = 16
+PIECES = 8
 WAIT_SECONDS = 60.0
 FULL_SECONDS = 0.004
 LEAVES_FREE = 64 << 20
-TRIES = 3
 
 
 class Broken(VaultError):
@@ -71,32 +72,46 @@ class Coming:
 
 @dataclass
 class Target:
-    """Where an upload goes: a check-out of a designer, and a part, or an assembly in which each file has a part."""
+    """Where an upload goes: a check-out of a designer, and a part, or a place in which each file has a part; with what stands there."""
 
     claim: str
     place: str
     part: bool
     store: Store | None
-    parts: dict[str, str] = field(default_factory=dict)
+    there: There
 
 
-def target_of(client: Designer, store: Callable[[], Store | None], claim: str, place: str) -> Target:
+@dataclass(frozen=True)
+class File:
+    """A file that comes: the folders that it stands in, and its name."""
+
+    folders: Sequence[str]
+    name: str
+
+
+@dataclass(frozen=True)
+class Taken:
+    """What became of a file: its part, its name there, and whether it is a draft; if not, it is as the part's last version."""
+
+    part: str
+    name: str
+    draft: bool
+
+
+def target_of(client: Designer, store: Callable[[], Store | None], claim: str, place: str, folder: bool) -> Target:
     """Looks whether something may be put there at all, so that nobody sends long files in vain."""
     if under(STORE_PLACE, place):
         raise MisusedError("There the vault names its store. Put the file elsewhere.")
-    if not client.is_assembly(place):
-        return Target(client.claim_for(place, claim), place, True, store())
-    held = client.held(place).get(claim, ())
-    if not any(item[0] == "w" and under(place, item[2:]) for item in held):
+    part = not client.is_assembly(place)
+    if part:
+        claim = client.claim_for(place, claim)
+    elif not any(item[0] == "w" and under(place, item[2:]) for item in client.held(place).get(claim, ())):
         raise RefusedError(f"{claim or 'No check-out'} of yours takes in {place} for change. Check it out first.")
-    named: dict[str, str] = {}
-    parts = [f"{place}/{name}" for name in client.names(place)]
-    _, counts = client.survey(place)
-    for part in (part for part in parts if counts.get(part)):
-        card = read_card(client.get(part))
-        if card is not None:
-            named[card.name] = part
-    return Target(claim, place, False, store(), named)
+    if folder and part:
+        raise MisusedError(f"{place} is a part. Put a folder into an assembly or a project.")
+    if not folder and not part and place.count("/") < ASSEMBLY:
+        raise MisusedError(f"{place} is a project, and parts stand in assemblies alone. Make an assembly in it first, or put a whole folder.")
+    return Target(claim, place, part, store(), There.look(client, claim, place, folder))
 
 
 def check_room(store: Store | None, size: int) -> None:
@@ -107,15 +122,22 @@ def check_room(store: Store | None, size: int) -> None:
             raise StoreFaultError("The store has no room for that. Ask whoever runs it; nothing was put.")
 
 
-def received(client: Designer, target: Target, coming: Coming, name: str, spool: Path) -> str:
-    """Takes one file in, and saves its card as a draft. Answers the part."""
+def received(client: Designer, target: Target, coming: Coming, file: File, spool: Path) -> Taken:
+    """Takes one file in, and saves its card as a draft, if it isn't what the part's last version is."""
     try:
-        content = content_of(client, target.store, coming, name, spool)
-        place = target.place if target.part else part_for(client, target, name)
-        client.put(place, content[1], target.claim, keep=False)
-        if content[0] is not None and target.store is not None and target.store.find(content[0].sha256) is None:
+        there = target.there
+        name = target.part and there.name_of(target.place) or file.name
+        kept, content = content_of(client, target.store, coming, name, spool)
+        part = target.place if target.part else there.part_for(
+            client, target.claim, there.assembly_for(client, target.claim, file.folders), name, target.store is None)
+        if there.is_as_it_was(part, kept.sha256 if kept else hashlib.sha256(content).hexdigest(), name):
+            return Taken(part, name, False)
+        there.check_room(target.claim, part)
+        client.put(part, content, target.claim, keep=False)
+        there.drafts.add(part)
+        if kept is not None and target.store is not None and target.store.find(kept.sha256) is None:
             raise StoreFaultError(f"The bytes of {name} were taken away from the store meanwhile. Put the file again, before you check in.")
-        return place
+        return Taken(part, name, True)
     finally:
         coming.over = True
 
@@ -147,22 +169,6 @@ def by_a_copy(store: Store, coming: Coming, spool: Path) -> Kept:
             file.write(room[:length])
         file.flush()
         return store.add(Path(file.name), no_meter)
-
-
-def part_for(client: Designer, target: Target, name: str) -> str:
-    """The part of a file in an assembly: the one whose last version has its name, or a new one."""
-    if name in target.parts:
-        return target.parts[name]
-    for _ in range(TRIES):
-        place = f"{target.place}/{part_name(name, client.names(target.place))}"
-        try:
-            client.make(place, target.claim)
-            target.parts[name] = place
-            return place
-        except RefusedError as refused:
-            if refused.code != 21:
-                raise
-    raise RefusedError(f"Others make parts of that name in {target.place} at this moment. Try again.")
 
 
 def file_name(sent: str) -> str:

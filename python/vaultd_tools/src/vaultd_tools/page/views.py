@@ -122,8 +122,7 @@ class PlaceView(View):
 
     def _heading(self, source: Source, place: Place, here: list[Claim]) -> str:
         above = [path for path in reversed(list(ways(self.path))) if path != self.path]
-        title = place.latest.card.name if place.latest and place.latest.card else ""
-        return source.renderer.piece("heading", source.vault, place, above, title, who_is_at(here, self.path))
+        return source.renderer.piece("heading", source.vault, place, above, source.model.title(self.path), who_is_at(here, self.path))
 
     def _put_versions(self, pieces: Pieces, source: Source, place: Place) -> None:
         known = source.model.versions

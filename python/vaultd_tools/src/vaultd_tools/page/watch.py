@@ -15,6 +15,7 @@ from collections.abc import Callable, Iterable, Sequence
 from vault.protocol.grammar import (
     BYTES_GIVEN, CLAIMS_LISTED, CONTENT_BYTES, COUNTED, NAME, NAMES_LISTED, NOTE_BYTES, SHOWN, in_bytes, under)
 from vault.store.card import read_card
+from vault.store.naming import is_of_names, named_by, read_name
 from vaultd_tools.files import Claim
 from vaultd_tools.page.line import ways
 from vaultd_tools.page.model import (
@@ -425,7 +426,7 @@ class Watcher:
         question = ("list " if self.model.add(path).part is False else "count ") + path
         self._said.pop(question, None)
         self._urgent.add([question])
-        if not self._quiet:
+        if not self._quiet and not is_of_names(path):
             self.model.tell("", "is new", path)
 
     def _take_count(self, path: str, reply: bytes) -> None:
@@ -446,7 +447,7 @@ class Watcher:
     def _take_versions(self, place: Place, count: int) -> None:
         """A part has this many versions: the new ones are read; of a part that wasn't known only the last one."""
         first = max(place.versions, count - LEARNED_AT_ONCE) if place.latest else count - 1
-        if not self._quiet and count > place.versions:
+        if not self._quiet and count > place.versions and not is_of_names(place.path):
             self.model.tell("", f"has version {count}", place.path)
         if count > place.versions or place.latest is None:
             place.latest = self.model.versions.get((place.path, count))
@@ -460,7 +461,7 @@ class Watcher:
             return
         content = bytes_in(reply, b"content", CONTENT_BYTES)
         card = read_card(content)
-        version = Version(number, card.size if card else len(content), card)
+        version = Version(number, card.size if card else len(content), card, read_name(content) if named_by(path) else "")
         self.model.keep(path, version, len(content))
         self.changed |= version != before
 

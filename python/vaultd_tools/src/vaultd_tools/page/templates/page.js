@@ -72,6 +72,7 @@
     const element = there(byId(id), id);
     keepingFocus(element, () => { element.innerHTML = html; });
     showTimes(element);
+    if (id === "tree-words") for (const each of document.querySelectorAll("[data-beneath]")) each.textContent = element.textContent;
     const branch = element.parentElement;
     if (branch.tagName === "DETAILS" && !("touched" in branch.dataset) && branch.closest("[data-opens]")) {
       branch.open = element.querySelector(".beneath") !== null;
@@ -186,8 +187,14 @@
 
   // Forms are alike by what they are for, and one is begun where somebody has chosen or written something, or is about to.
   const same = form => [form.action, form.querySelector("[type=hidden][name=place]")?.value, !!form.querySelector("[webkitdirectory]")].join(" ");
-  const isBegun = form => form.contains(document.activeElement) || [...form.elements].some(
+  const isBegun = form => uploads.has(form) || form.contains(document.activeElement) || [...form.elements].some(
     field => field.selectedIndex > 0 || field.type !== "hidden" && "defaultValue" in field && field.value !== field.defaultValue);
+
+  // What works by a script alone.
+  function showWithScript() {
+    for (const folder of document.querySelectorAll("[data-folder]")) folder.hidden = false;
+    for (const ask of document.querySelectorAll("[data-ask-notify]")) ask.hidden = !window.Notification || Notification.permission !== "default";
+  }
 
   function takeOver(page, asked) {
     const main = byId("main"), begun = new Map([...main.querySelectorAll("form")].filter(isBegun).map(form => [same(form), form]));
@@ -196,6 +203,7 @@
       main.replaceChildren(...page.getElementById("main").childNodes);
       for (const form of main.querySelectorAll("form")) begun.get(same(form)) && form.replaceWith(begun.get(same(form)));
     });
+    showWithScript();
     if (token) for (const field of document.querySelectorAll("[name=token]")) field.value = token;
     data.revision = page.body.dataset.revision;
     data.run = page.body.dataset.run;
@@ -357,8 +365,13 @@
     const summary = clicked.target.closest("summary");
     if (summary && !clicked.target.closest("a")) summary.parentElement.dataset.touched = "";
   });
-  // What is sent to nobody would be lost with what somebody wrote.
-  document.addEventListener("submit", sent => { if (lostAt && sent.target.method === "post") sent.preventDefault(); });
+  // What is sent to nobody would be lost with what somebody wrote. Files are sent by a request of their own, which tells how far it is.
+  document.addEventListener("submit", sent => {
+    const form = sent.target;
+    if (form.method !== "post") return;
+    if (lostAt || uploads.has(form) || form.querySelector("[type=file]")) sent.preventDefault();
+    if (!lostAt && !uploads.has(form) && form.querySelector("[type=file]")) upload(form);
+  });
   document.addEventListener("keydown", pressed => {
     const typing = /^(INPUT|TEXTAREA|SELECT)$/.test(document.activeElement.tagName);
     if (pressed.key === "/" && !typing && !pressed.ctrlKey && !pressed.metaKey && !pressed.altKey) {
@@ -366,6 +379,61 @@
       byId("q").focus();
     }
   });
+
+  // Files that are put
+
+  const uploads = new Set();
+  const inBytes = count => {
+    const unit = Math.min(4, Math.floor(Math.log10(Math.max(1, count)) / 3));
+    return `${Number((count / 1000 ** unit).toPrecision(3))} ${["bytes", "kB", "MB", "GB", "TB"][unit]}`;
+  };
+
+  // The fields of a form, and then its files: of a folder what says what is left out comes first, and what is hidden doesn't come at all.
+  function formData(form) {
+    const found = new FormData(), files = [...form.querySelector("[type=file]").files];
+    const path = file => file.webkitRelativePath || file.name, rules = file => /^[^/]*\/\.vaultignore$/.test(path(file));
+    for (const field of form.elements) if (field.name && field.type !== "file") found.append(field.name, field.value);
+    const shown = files.filter(file => rules(file) || !path(file).split("/").slice(1).some(name => name.startsWith(".")));
+    for (const file of [...shown.filter(rules), ...shown.filter(file => !rules(file))]) found.append("file", file, path(file));
+    return found;
+  }
+
+  function upload(form) {
+    const request = new XMLHttpRequest(), bar = document.createElement("progress"), words = document.createElement("span"), stop = document.createElement("button");
+    const button = form.querySelector("button"), ended = sentence => {
+      uploads.delete(form);
+      button.disabled = false;
+      for (const each of [bar, stop]) each.remove();
+      words.setAttribute("role", "alert");
+      words.textContent = sentence;
+    };
+    form.querySelectorAll("[data-told]").forEach(each => each.remove());
+    words.dataset.told = "";
+    words.textContent = "begins";
+    bar.setAttribute("aria-label", "How far the upload is");
+    stop.type = "button";
+    stop.textContent = "Stop";
+    stop.addEventListener("click", () => request.abort());
+    button.disabled = true;
+    uploads.add(form);
+    form.append(bar, words, stop);
+    request.upload.onprogress = ({loaded, total}) => {
+      bar.max = total;
+      bar.value = loaded;
+      words.textContent = loaded < total ? `${inBytes(loaded)} of ${inBytes(total)}` : "all is sent";
+    };
+    request.onload = () => {
+      if (request.status !== 200) { ended(request.getResponseHeader("Content-Type")?.startsWith("text/plain") ? request.responseText : `The web server said ${request.status}.`); return; }
+      uploads.delete(form);
+      location.assign(request.responseURL);
+    };
+    request.onerror = () => ended("The upload was broken off. What was put before stands as drafts; put all once more.");
+    request.onabort = () => ended("Stopped. What was put before stands as drafts.");
+    request.open("POST", form.action);
+    request.send(formData(form));
+  }
+
+  addEventListener("beforeunload", leaving => { if (uploads.size) leaving.preventDefault(); });
 
   addEventListener("beforeprint", () => {
     const words = document.querySelector("[data-pill]");
@@ -400,12 +468,12 @@
   }
 
   addEventListener("focus", () => { document.title = title; });
-  for (const folder of document.querySelectorAll("[data-folder]")) folder.hidden = false;
-  for (const ask of document.querySelectorAll("[data-ask-notify]")) {
-    ask.hidden = !window.Notification || Notification.permission !== "default";
-    ask.addEventListener("click", () => Notification.requestPermission().then(() => { ask.hidden = true; }));
-  }
+  document.addEventListener("click", clicked => {
+    const ask = clicked.target.closest("[data-ask-notify]");
+    if (ask) Notification.requestPermission().then(() => { ask.hidden = true; });
+  });
 
+  showWithScript();
   showTimes(document);
   openAsBefore().catch(() => {});
   if (data.watch) {
