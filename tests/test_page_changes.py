@@ -109,5 +109,85 @@ class Quick(unittest.TestCase):
         self.assertLess(took, soon())
 
 
+class Bars(unittest.TestCase):
+    """The vault of an office: 40 projects with 2,003 parts, twelve designers, and 60 check-outs, of which 20 wait."""
+
+    parts = 2003
+
+    def setUp(self) -> None:
+        self.server = Server("--workers", "32", folder=MEMORY)
+        self.addCleanup(self.server.close)
+        self.server.start()
+        places = [f"/p{number % 40:02}/block/part_{number // 40:02}" for number in range(self.parts)]
+        above = [f"/p{number:02}{end}" for number in range(40) for end in ("", "/block")]
+        self.say("anna", *(f"make {place}" for place in above + places))
+        for number in range(40):
+            self.say(f"d{number % 12}", f"checkout w:{places[number]}", f"note c{number + 1} {b'until noon'.hex()}")
+        for number in range(20):
+            self.say(f"d{(number + 1) % 12}", f"checkout w:{places[number]}")
+        self.page = PageServer(self.server.port)
+        self.addCleanup(self.page.end)
+
+    def say(self, name: str, *lines: str) -> None:
+        """Has a designer say some lines, each of which is done."""
+        with self.server.connect() as client:
+            said = told(client, "".join(line + "\n" for line in (f"hello {name}", *lines)).encode(), 1 + len(lines))
+        self.assertEqual(said.count(b"OK "), 1 + len(lines), said[-300:])
+
+    def stream(self, path: str) -> Stream:
+        """An open page's stream."""
+        stream = self.page.stream(path)
+        self.addCleanup(stream.close)
+        return stream
+
+    def test_how_soon(self) -> None:
+        """What a designer does shows to others within half a second: check-outs, notes, gifts, and their ends."""
+        stream, took = self.stream("/"), []
+        stream.next(lambda kind, data: kind == "beat", 20)
+        for number in range(61, 65):
+            for name, line, shown in (("cara", f"checkout w:/p39/block/part_{number - 30}", f"took c{number} "),
+                                      ("cara", f"note c{number} {b'soon'.hex()}", f"noted something on c{number} "),
+                                      ("cara", f"give c{number} ben", f"was given c{number} "),
+                                      ("ben", f"abandon c{number}", f"is done with c{number}")):
+                begun = time.monotonic()
+                self.say(name, line)
+                stream.change(shown, seconds=5)
+                took.append(time.monotonic() - begun)
+        took.sort()
+        print(f"[{took[len(took) // 2]:.2f} s, at most {took[-1]:.2f} s]", end=" ", flush=True)
+        self.assertLess(took[-2], soon(0.5), took)      # a virtual machine may stand still once meanwhile
+
+    def test_how_much(self) -> None:
+        """The first screen has less than 100 kB as it is, and a third of that on its way, with all that it needs beside it."""
+        until(lambda: "led live" in self.page.page("/"), 20)
+        plain = self.page.page("/")
+        shown = [self.page.get(path, Accept_Encoding="gzip")[1]["content-length"] for path in re.findall(r'(?:href|src)="(/\.static/[^"]+)"', plain)]
+        way = int(self.page.get("/", Accept_Encoding="gzip")[1]["content-length"])
+        print(f"[{len(plain.encode()):,} bytes, {way:,} on the way, {sum(map(int, shown)):,} beside it once]", end=" ", flush=True)
+        self.assertEqual(len(shown), 3)
+        self.assertLess(len(plain.encode()), 100_000)
+        self.assertLess(way + sum(map(int, shown)), 33_000)
+
+    def test_thirty_pages(self) -> None:
+        """While two changes come a second, thirty open pages cost the page's program a fifth of a processor at most, and the server next to
+        none."""
+        assert self.server.process is not None
+        for number in range(30):
+            stream = self.stream(("/", "/designers", f"/p{number:02}")[number % 3])
+            stream.next(lambda kind, data: kind == "beat", 20)
+        with self.server.connect() as client:
+            told(client, b"hello anna\ncheckout w:/p39/block/part_49\n", 2)
+            processes, before, begun = (self.page.process.pid, self.server.process.pid), [0.0, 0.0], 0.0
+            for number in range(22):
+                if number == 2:
+                    before, begun = [processor_seconds(process) for process in processes], time.monotonic()
+                told(client, f"note c61 {number:02x}\n".encode(), 1)
+                time.sleep(0.5)
+        taken = [(processor_seconds(process) - earlier) / (time.monotonic() - begun) for process, earlier in zip(processes, before)]
+        print(f"[{taken[0]:.1%} and {taken[1]:.1%} of a processor]", end=" ", flush=True)
+        self.assertLess(taken[0], 0.2)
+        self.assertLess(taken[1], 0.02)
+
+
 if __name__ == "__main__":
     unittest.main()

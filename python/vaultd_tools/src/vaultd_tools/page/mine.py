@@ -62,7 +62,7 @@ class MineView(View):
         held = sum(claim.behind is None for claim in theirs)
         pieces.texts["line-words"] = renderer.piece("line_words", held, len(theirs) - held, 0) if theirs else renderer.piece("nothing_yet")
         pieces.texts["asked"] = renderer.piece("asked", in_the_way(rows, self.name))
-        pieces.texts["rings"] = renderer.piece("rings", [ring for ring in rows.rings() if self.name in (one.owner for one in ring)])
+        pieces.texts["rings"] = renderer.rings(tuple(ring for ring in rows.rings() if self.name in (one.owner for one in ring)))
         pieces.lists["mine"] = {claim.name: renderer.piece("mine_item", rows.claim(claim), drafts.get(claim.name, ())) for claim in theirs}
         return pieces
 

@@ -6,6 +6,7 @@ from collections import OrderedDict, deque
 from collections.abc import Iterator
 from dataclasses import dataclass, field
 from datetime import datetime, timezone
+from typing import Any
 
 from vault.files.names import OWN_NAME
 from vault.store.card import Card
@@ -108,6 +109,9 @@ class Model:
         self.read_bytes = 0
         # The real names of projects and assemblies, where they have others than their places.
         self.names: dict[str, str] = {}
+        # It counts what changed of places and their names, and what was worked out of them for pages is kept.
+        self.shape = 0
+        self.trees: OrderedDict[str, Any] = OrderedDict()
         self.news: deque[News] = deque(maxlen=KEPT_NEWS)
 
     def forget(self) -> None:
@@ -115,12 +119,15 @@ class Model:
         self.places.clear()
         self.versions.clear()
         self.names.clear()
+        self.trees.clear()
+        self.shape += 1
         self.read = self.read_bytes = 0
         self.since = {claim.name: Since(now(), False) for claim in self.claims}
 
     def add(self, path: str) -> Place:
         """Adds a place that wasn't known. Its depth says whether it is a part, no part, or possibly either."""
         names = depth(path)
+        self.shape += 1
         self.places[path] = place = Place(path, False if names < PART_NAMES else True if names == MAX_NAMES else None)
         return place
 
@@ -136,6 +143,7 @@ class Model:
         place = self.places.get(path)
         if place is not None and version.number == place.versions:
             place.latest = version
+            self.shape += 1
             if named_by(path):
                 self._take_name(named_by(path), version.names)
 
@@ -155,6 +163,10 @@ class Model:
         if place is not None and not named_by(path):
             return all(map(self.is_hidden, place.children))
         return place is None or place.latest is None or bool(place.latest.names)
+
+    def place(self, path: str) -> Place:
+        """A place, also one that isn't known any more."""
+        return self.places.get(path) or Place(path, None)
 
     def title(self, path: str) -> str:
         """The real name of a place, as far as it has another one."""

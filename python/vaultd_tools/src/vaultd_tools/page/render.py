@@ -24,6 +24,7 @@ from vaultd_tools.page.rows import BlockerRow, ClaimRow
 
 HUES = 24
 ROWS_KEPT = 8192
+RINGS_KEPT = 64
 MARKS = 3
 STATIC = {"page.css": "text/css", "page.js": "text/javascript", "stream.js": "text/javascript", "icon.svg": "image/svg+xml"}
 APART = "/~"
@@ -109,6 +110,7 @@ class Renderer:
         self.row = functools.lru_cache(ROWS_KEPT)(lambda row: self._tidy(self.parts.row(row)))
         self.leaf = functools.lru_cache(ROWS_KEPT)(lambda row: self._tidy(self.parts.leaf(row, self.row(row))))
         self.claim_item = functools.lru_cache(ROWS_KEPT)(lambda row: self._tidy(self.parts.claim_item(row)))
+        self.rings = functools.lru_cache(RINGS_KEPT)(lambda rings: self._tidy(self.parts.rings(rings)))
         self.blocker = functools.lru_cache(ROWS_KEPT)(lambda row: self._tidy(self.parts.blocker(row)))
 
     def prepare(self) -> None:

@@ -48,7 +48,7 @@ def put_waits(pieces: Pieces, source: Source, line: Line, here: list[Claim], who
     pieces.lists["blockers"] = renderer.blockers(blockers)
     told = {row.claim.name for row in blockers} | {one.name for row in blockers for one in row.stopped}
     names = {claim.name for claim in here}
-    pieces.texts["rings"] = renderer.piece("rings", [ring for ring in rows.rings() if whole or any(one.waiting in names for one in ring)])
+    pieces.texts["rings"] = renderer.rings(tuple(ring for ring in rows.rings() if whole or any(one.waiting in names for one in ring)))
     held = sum(claim.behind is None for claim in here)
     if whole:
         pieces.texts["line-words"] = renderer.piece("waits_words", len(blockers), len(here) - held, held)
@@ -113,7 +113,7 @@ class PlaceView(View):
         else:
             pieces.tree = Tree(renderer, model, self.path)
             pieces.tree.put(pieces)
-            pieces.texts["tree-words"] = counts(model, self.path)
+            pieces.texts["tree-words"] = counts(pieces.tree.bare.kinds)
         if whole:
             pieces.texts["tally"] = renderer.piece("tally", len(model.claims) - line.held, len(line.blockers()), line.held, len(model.owners()))
             pieces.texts["news"] = renderer.piece("news", list(model.news)[:NEWS_SHOWN])
@@ -164,7 +164,7 @@ class DesignerView(View):
         pieces.texts["heading"] = renderer.piece("designer_heading", self.name, self._place(model))
         pieces.texts["line-words"] = renderer.piece("line_words", held, len(theirs) - held, 0) if theirs else (
             renderer.piece("nothing", self.name))
-        pieces.texts["rings"] = renderer.piece("rings", [ring for ring in rows.rings() if self.name in (one.owner for one in ring)])
+        pieces.texts["rings"] = renderer.rings(tuple(ring for ring in rows.rings() if self.name in (one.owner for one in ring)))
         pieces.texts["others"] = renderer.piece("others", rows.claims(rows.line.waiters(self.name)))
         pieces.texts["latest"] = renderer.piece("latest", self._latest(model))
         return pieces
@@ -207,9 +207,8 @@ class DesignersView(View):
         return {"title": f"Designers · {source.vault}", "see": self.address}
 
 
-def counts(model: Model, top: str) -> Markup:
-    """How many places of each kind there are beneath one."""
-    kinds = Counter(place.kind for place in model.walk(top) if place.path != top)
+def counts(kinds: Counter[str]) -> Markup:
+    """How many places of each kind there are."""
     words = [f"{kinds[kind]:,} {kind if kinds[kind] == 1 else plural}"
              for kind, plural in (("project", "projects"), ("assembly", "assemblies"), ("part", "parts")) if kinds[kind]]
     return Markup(", ".join(words) + "." if words else "Nothing stands there yet.")
@@ -253,8 +252,8 @@ class ClaimView(View):
         pieces.texts["heading"] = renderer.piece("claim_heading", self.name, rows.claim(claim) if claim else None)
         pieces.texts["ways-words"] = "" if before else "Nothing."
         pieces.texts["stopped-words"] = "" if stopped else "Nobody."
-        pieces.texts["rings"] = renderer.piece("rings", [ring for ring in rows.rings() if self.name in {name for one in ring for name in (
-            one.name, one.waiting)}])
+        pieces.texts["rings"] = renderer.rings(tuple(ring for ring in rows.rings() if self.name in {name for one in ring for name in (
+            one.name, one.waiting)}))
         return pieces
 
     def words(self, source: Source, pieces: Pieces) -> dict[str, Any]:

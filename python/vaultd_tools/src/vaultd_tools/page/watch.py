@@ -419,6 +419,7 @@ class Watcher:
             if child not in self.model.places:
                 self._add(child)
         place.part, place.children, self.changed = False, children, True
+        self.model.shape += 1
 
     def _add(self, path: str) -> None:
         if depth(path) > MAX_NAMES or len(self.model.places) >= MAX_PLACES:
@@ -434,6 +435,7 @@ class Watcher:
         if place is None:
             return
         self.changed = True
+        self.model.shape += 1
         if reply == NO_PART and place.part is None:
             place.part = False
             self._urgent.add(["list " + path])
