@@ -500,7 +500,7 @@ class Program(WithServer):
         drawing, state = Path(self.folder.name) / "drawing", Path(self.folder.name) / "vault"
         drawing.write_bytes(b"bore 80")
         work = Path(self.folder.name) / "work"
-        notes = [["note", "c1", "mine"], ["give", "c1", "ben"], ["hello", f"ben@127.0.0.1:{self.server.port}"], ["mine", "c1"]]
+        notes = [["note", "c1", "mine"], ["give", "c1", "ben", "--yes"], ["hello", f"ben@127.0.0.1:{self.server.port}"], ["mine", "c1"]]
         said = [["hello", f"anna@127.0.0.1:{self.server.port}"], ["tree"], ["make", "/engine/block/rod"],
                 ["nest", "/engine/block/valve"], ["checkout", "w:" + PART], ["wait", "c1"], ["extend", "c1", "w:/engine/block/rod"],
                 ["put", PART, str(drawing)], ["drafts", "c1"], ["drafts", "c1", str(state / "kept")], ["draft", "c1", PART], ["who"],

@@ -7,6 +7,7 @@ from unittest import mock
 from designers import PART, WithServer
 
 from vault import Client, MisusedError, NotKnownError, RefusedError, UnreachableError
+from vault.store.card import Card
 
 
 class Knowing(WithServer):
@@ -44,6 +45,19 @@ class Give(Knowing):
             self.assertEqual(self.anna.mine(), [])
             self.claim = self.anna.checkout(["w:" + PART]).claim
         self.assertEqual(self.notices, [])
+
+    def test_changed_by_the_receiver(self) -> None:
+        """One that the receiver put something else into and checked in is forgotten, once that is told; one that ended otherwise isn't."""
+        for ends in ("checkin", "abandon"):
+            self.anna.put(PART, b"x")
+            self.anna.give(self.claim, "ben")
+            self.ben.put(PART, b"y", self.claim)
+            self.assertEqual([claim.given for _, claim in self.anna.mine()], ["ben"])
+            getattr(self.ben, ends)(self.claim)
+            self.assertEqual([standing.gone for standing, _ in self.anna.mine()], [True])
+            self.assertEqual(len(self.anna.mine()), 0 if ends == "checkin" else 1)
+            self.assertEqual(self.anna.kept_drafts(self.claim), {} if ends == "checkin" else {PART: b"x"})
+            self.claim = self.anna.checkout(["w:" + PART]).claim
 
     def test_given_back(self) -> None:
         """Once it is given back, she can put and check in again, and her client still knows what it was asked for."""
@@ -144,10 +158,32 @@ class Note(Knowing):
         self.assertEqual(self.vault("note", "c1"), "zur\u00fcck am Montag\n".encode())
         self.anna.set_note("c1", b"\x1b[2J")
         self.assertEqual(self.as_json("note", "c1")["note"], "0x1b5b324a")
-        self.assertIn(b"c1 is ben's now", self.vault("give", "c1", "ben"))
+        self.assertIn(b"c1 is ben's now", self.vault("give", "c1", "ben", "--yes"))
         self.vault("hello", f"ben@127.0.0.1:{self.server.port}")
         self.assertIn(b"c1 is held.", self.vault("mine", "c1"))
         self.assertEqual(self.as_json("mine")["claims"][0]["claim"], "c1")
+
+    def test_to_nobody(self) -> None:
+        """A name that nobody has used is asked about first: known is who has a check-out, had one that this client heard of, or put a version."""
+        self.vault("hello", f"anna@127.0.0.1:{self.server.port}")
+        refused = self.as_json("give", "c1", "bne", status=1)
+        self.assertEqual(refused["sentence"], "Nothing was changed. Say the same with `--yes`, if that is what you want.")
+        self.assertIn("Nobody called bne has a check-out or a version in this vault so far: look whether the name is right.", refused["notices"][0])
+        self.assertIn("is no designer's name", self.as_json("give", "c1", "B n", status=2)["sentence"])
+        self.assertTrue(self.anna.standing("c1").held)
+        other = self.ben.checkout(["r:/engine"]).claim
+        self.assertEqual(self.as_json("give", "c1", "ben")["receiver"], "ben")
+        self.ben.give("c1", "anna")
+        self.vault("who")
+        self.ben.abandon(other)
+        self.assertEqual(self.as_json("give", "c1", "ben")["receiver"], "ben")
+        carl = self.client("carl")
+        card = Card("0" * 64, 1, "x", "dora", "2026-01-01T00:00:00Z")
+        self.ben.put(PART, card.spell(), "c1")
+        self.ben.checkin("c1")
+        claim = carl.checkout(["w:" + PART]).claim
+        self.vault("hello", f"carl@127.0.0.1:{self.server.port}")
+        self.assertEqual(self.as_json("give", claim, "dora")["receiver"], "dora")
 
 
 if __name__ == "__main__":

@@ -177,7 +177,7 @@ class LeftOut(WithFiles):
         self.assertIn("Windows doesn't take in a name: rename it", left["a/a:b"])
         self.assertIn("stands in no assembly's folder", left["loose"])
         self.assertEqual(self.got("/motor"), {"a/good": b"1", "locked/x": b"7"})
-        self.assertIn("9 files and folders are not in the vault", said["sentence"])
+        self.assertIn("has what is in " + str(self.cad) + ", but for 9 files and folders. ", said["sentence"])
 
     def test_limits(self) -> None:
         """More than 64 beneath one, and seven names deep: told with what helps, and the others go in."""
@@ -290,7 +290,7 @@ class Adding(WithFiles):
         self.cad = work
         self.lay({"block/Dichtung (neu)/Ring 1": b"1", "block/Dichtung (neu)/innen/Ring 2": b"2", "Kopf/x.bak": b"3", "Kopf/y": b"4"})
         refused = self.as_json("add", str(work / "Kopf"), str(work / "block" / "Dichtung (neu)"), status=1)
-        self.assertIn("Nothing was changed", refused["sentence"])
+        self.assertIn("No folder was added", refused["sentence"])
         said = self.as_json("add", "--yes", str(work / "Kopf"), str(work / "block" / "Dichtung (neu)"))
         self.assertEqual({os.path.relpath(name, work): place for name, place in said["made"].items()},
                          {"Kopf": "/engine/kopf", "Kopf/y": "/engine/kopf/y", "block/Dichtung (neu)": "/engine/block/dichtung__neu_",

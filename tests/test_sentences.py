@@ -2,11 +2,13 @@
 
 import os
 import unittest
-from typing import List
+from pathlib import Path
+from typing import Dict, List
 
 from stores import NAME, PART, WithStore
 
 from vault import RefusedError
+from vault.cli.counting import MOST, SHOWN, some_of
 
 
 class Limits(WithStore):
@@ -80,6 +82,211 @@ class Words(WithStore):
         said = self.as_json("put", str(self.root / "work"))
         self.assertEqual(said["left"][0]["reason"], f"{claim} takes it in, and waits still: `vault wait {claim}` tells when it is held")
         self.assertIn(f"`vault wait {claim}` tells", self.as_json("checkin", str(self.root / "work"), status=1)["sentence"])
+
+
+class Kinds(unittest.TestCase):
+    """Which lines are of one kind."""
+
+    def test_some(self) -> None:
+        """Of a kind that has many lines some are shown; one of another kind always is, wherever it stands."""
+        many = [(f"f{number}:", f"version {number} is in the vault; `vault get /e/p{number}` fetches it.") for number in range(MOST + 1)]
+        lines = [*many[:20], ("odd:", "can't be read."), *many[20:]]
+        said = some_of(lines, False)
+        self.assertEqual(len(said), SHOWN + 2)
+        self.assertEqual(said[-2:], [f"So it is with {MOST + 1 - SHOWN} more: `--all` names them.", "odd: can't be read."])
+        self.assertEqual(some_of(lines, True), [" ".join(line) for line in lines])
+        self.assertEqual(some_of(lines[1:], False), [" ".join(line) for line in lines[1:]])
+
+
+class Hundreds(WithStore):
+    """What comes in hundreds is counted, and listed with `--all`."""
+
+    FILES = 60
+
+    def setUp(self) -> None:
+        super().setUp()
+        self.as_program()
+        self.cad = self.root / "cad"
+        for number in range(self.FILES):
+            self.lay(f"Deckel/Teil {number}", b"%d" % number)
+        self.lay("Welle/Nut", b"nut")
+        self.vault("import", str(self.cad), "/motor", "--yes")
+
+    def lay(self, name: str, content: bytes) -> Path:
+        """Writes a file of the folder."""
+        path = self.cad / name
+        path.parent.mkdir(parents=True, exist_ok=True)
+        path.write_bytes(content)
+        return path
+
+    def shown(self, *words: str, status: int = 0) -> Dict[bool, List[str]]:
+        """The lines of an answer, without and with `--all`."""
+        return {every: self.vault(*words, *(["--all"] if every else []), status=status).decode().splitlines() for every in (False, True)}
+
+    def check_counted(self, lines: List[str], more: int) -> None:
+        """Some lines are shown, and more of the same kind are counted."""
+        self.assertEqual(lines.count(f"So it is with {more} more: `--all` names them."), 1, lines)
+
+    def test_places(self) -> None:
+        """Places: the upper ones, each with how many are beneath it."""
+        shown = self.shown("tree", "/")
+        self.assertIn("    deckel  Deckel  (60 places beneath)", shown[False])
+        self.assertTrue(shown[False][-1].endswith(" places in all: `--all` lists them."), shown[False])
+        self.assertEqual((len(shown[True]), "        teil_59  Teil 59" in "\n".join(shown[True])), (1 + len(self.as_json("tree")["places"]), False))
+        self.assertIn("      teil_59  Teil 59", shown[True])
+        self.assertEqual(self.shown("tree", "/motor/welle")[False], ["/motor/welle", "  nut  Nut"])
+        self.assertEqual(len(self.shown("tree", "/motor/deckel")[False]), 61)
+
+    def test_files(self) -> None:
+        """Files of a working folder: changed, put, checked in, got, missing, new."""
+        self.vault("checkout", "w:/motor/deckel")
+        for number in range(self.FILES):
+            self.lay(f"Deckel/Teil {number}", b"changed %d" % number)
+        self.lay("Welle/neu", b"new")
+        shown = self.shown("status", str(self.cad))
+        self.check_counted(shown[False], 50)
+        self.assertIn(f"Welle/neu: not in the vault; `vault add {self.cad}/Welle/neu` makes a part of it.", shown[False])
+        self.assertEqual((len(shown[False]), len(shown[True])), (12, 61))
+        self.check_counted(self.vault("put", str(self.cad)).decode().splitlines(), 50)
+        self.assertEqual(len(self.vault("put", str(self.cad), "--all").splitlines()), 60)
+        self.assertIn("60 drafts (`--all` names them)", self.vault("mine").decode())
+        self.assertEqual(self.vault("mine", "--all").decode().count("draft of"), 60)
+        self.vault("checkin", str(self.cad))
+        other = self.root / "other"
+        self.vault("get", "/motor", "--to", str(other))
+        for number in range(self.FILES):
+            (other / "Deckel" / f"Teil {number}").chmod(0o644)
+            (other / "Deckel" / f"Teil {number}").write_bytes(b"mine %d" % number)
+        self.anna.checkin(self.put_more())
+        told = self.as_json("get", "/motor", "--to", str(other))["notices"]
+        self.check_counted(told, 50)
+        self.assertEqual(len(self.as_json("get", "/motor", "--to", str(other), "--all")["notices"]), 60)
+
+    def put_more(self) -> str:
+        """A check-out with a further draft of each part."""
+        claim = self.anna.checkout(["w:/motor/deckel"]).claim
+        for number in range(self.FILES):
+            self.anna.put(f"/motor/deckel/teil_{number}", b"more %d" % number, claim)
+        return claim
+
+    def test_added(self) -> None:
+        """Files that become parts, and those that are parts already; and what is to be known of a place."""
+        files = [str(self.lay(f"Ring/Ring {number}", b"ring")) for number in range(self.FILES)]
+        refused = self.as_json("add", *files, status=2)
+        self.assertIn(f"`vault add {self.cad}/Ring` makes an assembly of it, and of all that is in it", refused["sentence"])
+        self.check_counted(refused["notices"], 49)
+        ring = self.as_json("add", str(self.cad / "Ring"), "--yes")
+        self.assertEqual((ring["made"][str(self.cad / "Ring")], len(ring["made"])), ("/motor/ring", 61))
+        files = [str(self.lay(f"Ring/Bolzen {number}", b"bolt")) for number in range(3)]
+        lines = self.vault("add", *files).decode().splitlines()
+        self.assertEqual((len(lines), lines[-1]), (4, "A place stays for good: no command removes one."))
+        self.check_counted(ring["sentence"].splitlines(), 51)
+        self.check_counted(self.as_json("add", *(str(path) for path in (self.cad / "Ring").iterdir()))["notices"], 53)
+
+    def test_claims(self) -> None:
+        """Check-outs: one's own, and those at a place."""
+        for _ in range(MOST + 2):
+            self.anna.checkout(["r:/motor"])
+        self.assertEqual(self.shown("mine")[False][-1], "2 more check-outs: `--all` lists them.")
+        self.assertEqual(self.shown("who", "/motor")[False][-1], "2 more claims come behind these: `--all` lists them.")
+        self.assertEqual(len(self.shown("who", "/motor")[True]), MOST + 2)
+        self.assertEqual(len(self.as_json("who", "/motor")["claims"]), MOST + 2)
+
+    def test_versions(self) -> None:
+        """Versions: the latest."""
+        for number in range(MOST + 1):
+            claim = self.anna.checkout([f"w:{PART}"]).claim
+            self.anna.put(PART, b"%d" % number, claim)
+            self.anna.checkin(claim)
+        shown = self.shown("history", PART)
+        self.assertEqual(shown[False][0], "1 earlier versions are there: `--all` lists them.")
+        self.assertEqual(shown[False][1:], shown[True][1:])
+
+
+class Renames(WithStore):
+    """A file that has another name now is known by its bytes, and what is said keeps one part."""
+
+    def setUp(self) -> None:
+        super().setUp()
+        self.put_version()
+        self.as_program()
+        self.work = self.root / "work"
+        self.vault("get", "/engine", "--to", str(self.work))
+        (self.work / "block" / NAME).rename(self.work / "block" / "Kolben 82 (neu)")
+
+    def test_file(self) -> None:
+        """What `status` says, said, gives the part the new name, here and elsewhere."""
+        other, path = self.root / "other", f"'{self.work}/block/Kolben 82 (neu)'"
+        self.vault("get", "/engine", "--to", str(other))
+        put = f"`vault put {PART} {path} --name 'Kolben 82 (neu)'` keeps it one part, with its history"
+        said = (f"block/Kolben 82 (neu) is block/{NAME} by another name, and `vault add` would make a second part of it. In a check-out of it"
+                f" (`vault checkout w:{PART}`) {put}.")
+        self.assertEqual(self.vault("status", str(self.work)).decode().splitlines(), [f"block/{NAME}: missing here.", said])
+        refused = self.as_json("add", str(self.work / "block" / "Kolben 82 (neu)"), status=2)
+        self.assertEqual(refused["sentence"], said)
+        self.vault("checkout", f"w:{PART}")
+        told = self.as_json("put", PART, str(self.work / "block" / "Kolben 82 (neu)"), "--name", "Kolben 82 (neu)")["sentence"]
+        self.assertTrue(told.endswith("makes it a version, which others get as Kolben 82 (neu)."), told)
+        self.assertEqual(self.vault("status", str(self.work)).decode(), "block/Kolben 82 (neu): put, checked out by you in c3.\n")
+        self.assertIn("c3 is checked in: 1 new version.", self.as_json("checkin", str(self.work))["sentence"])
+        self.assertIn("Nothing is changed", self.as_json("status", str(self.work))["sentence"])
+        self.assertEqual(self.as_json("get", "/engine", "--to", str(other))["files"], ["block/Kolben 82 (neu)"])
+        self.assertEqual([each["name"] for each in self.as_json("history", PART)["versions"]], [NAME, "Kolben 82 (neu)"])
+        self.assertEqual(self.as_json("tree", "/engine")["places"], ["/engine/block", PART])
+
+    def test_other_folder(self) -> None:
+        """One that was moved into another assembly's folder is told so, and becomes a part there where that is wanted; one that was copied is new."""
+        self.vault("make", "/engine/head")
+        self.vault("get", "/engine", "--to", str(self.work))
+        (self.work / "block" / "Kolben 82 (neu)").unlink()
+        moved = self.work / "head" / "Kolben"
+        moved.write_bytes((self.work / "block" / NAME).read_bytes())
+        self.assertIn(f"head/Kolben: not in the vault; `vault add {moved}` makes a part of it.", self.vault("status", str(self.work)).decode())
+        (self.work / "block" / NAME).unlink()
+        self.assertIn(f"head/Kolben has the bytes of block/{NAME}, which is missing here. A part stays in its assembly: move it back, or `vault add"
+                      f" {moved}` makes another part of it.", self.vault("status", str(self.work)).decode())
+        self.assertEqual(list(self.as_json("add", str(moved))["made"].values()), ["/engine/head/kolben"])
+
+    def test_folder(self) -> None:
+        """A folder that has another name now is known by its files, and nothing in it becomes a second part."""
+        self.vault("get", "/engine", "--to", str(self.root / "other"))
+        (self.root / "other" / "block").rename(self.root / "other" / "Block alt")
+        said = self.vault("status", str(self.root / "other")).decode()
+        self.assertIn("Block alt/ has the files of block, which is missing here: give it that name again, since an assembly keeps its name.", said)
+        self.assertNotIn("vault add", said)
+
+    def test_import(self) -> None:
+        """An import that goes on leaves it out, and says why."""
+        said = self.as_json("import", str(self.work), "/engine", "--yes")
+        self.assertTrue(said["sentence"].endswith("is left to import: 1 file or folder can not go in, as was said."), said["sentence"])
+        self.assertEqual([each["file"] for each in said["left"]], ["block/Kolben 82 (neu)"])
+        self.assertIn("keeps it one part, with its history", said["left"][0]["reason"])
+
+
+class PartOfAFolder(WithStore):
+    """`vault status` of a path is about that part of the working folder."""
+
+    def test_parts(self) -> None:
+        self.put_version()
+        self.as_program()
+        work = self.root / "work"
+        self.vault("get", "/engine", "--to", str(work))
+        self.vault("checkout", "w:/engine")
+        self.anna.make("/engine/head", "c3")
+        self.anna.make("/engine/head/valve", "c3")
+        (work / "block" / NAME).write_bytes(b"changed")
+        (work / "block" / "new").write_bytes(b"new")
+        (work / "Kopf" / "innen").mkdir(parents=True)
+        (work / "Kopf" / "innen" / "x").write_bytes(b"x")
+        rows = {"": 3, "block": 2, f"block/{NAME}": 1, "block/new": 1, "Kopf": 1, "Kopf/innen/x": 1}
+        for part, count in rows.items():
+            lines = self.vault("status", str(work / part)).decode().splitlines()
+            self.assertEqual(len(lines), count, (part, lines))
+        found = self.as_json("status", str(work / "block" / NAME))
+        self.assertEqual((found["place"], [each["file"] for each in found["files"]], found["others"]), (PART, [f"block/{NAME}"], []))
+        self.assertIn("isn't there, and nothing by this name", self.as_json("status", str(work / "block" / "none"), status=2)["sentence"])
+        (work / "block" / NAME).unlink()
+        self.assertIn("missing here", self.as_json("status", str(work / "block" / NAME))["sentence"])
 
 
 if __name__ == "__main__":

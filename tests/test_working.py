@@ -810,8 +810,8 @@ class PutAndCheckin(WithFolder):
         (self.work / "link").symlink_to(self.file)
         (self.work / "a:b").write_bytes(b"x")
         for name, said in ((NAME, "already"), ("none", "is no file"), ("link", "is no file"), ("a:b", "Rename it"), ("../x", "Move its files"),
-                           (".vault/lock", "Move its files"), ("new/x", "`vault nest /engine/block/new` makes an assembly of it, and `vault get"
-                                                                        f" /engine/block --to {self.work}` has")):
+                           (".vault/lock", "Move its files"),
+                           ("new/x", f"`vault add {self.work}/new` makes an assembly of it, and of all that is in it")):
             with self.assertRaises(MisusedError, msg=name) as refused:
                 self.working().add(name)
             self.assertIn(said, str(refused.exception))
@@ -823,21 +823,18 @@ class PutAndCheckin(WithFolder):
         """What is said of a folder of the designer's own makes an assembly of it, whatever its name and wherever it stands."""
         library = self.root / "library"
         self.got("/", library)
-        for name, kind, place in (("wing", "make", "/wing"), ("engine/Gear box", "make", "/engine/gear_box"), ("engine/block/Pleuel", "nest",
-                                  "/engine/block/pleuel")):
-            said = self.working(place="/", work=library).advice_on(name)
-            self.assertIn(f"`vault {kind} {place}` makes {'an assembly' if name != 'wing' else 'a project'} of it", said)
-            self.assertEqual("rename it" in said, name != "wing")
-            renamed = name.rpartition("/")[0] + "/" + place.rpartition("/")[2] if name != "wing" else name
-            (library / renamed).mkdir()
-            (self.anna.make if kind == "make" else self.anna.nest)(place)
-            self.assertIn(f"is not known here as the folder of {place}: `vault get / --to {library}`",
-                          self.working(place="/", work=library).advice_on(renamed))
+        for name, place in (("wing", "/wing"), ("engine/Gear box", "/engine/gear_box"), ("engine/block/Pleuel", "/engine/block/pleuel")):
+            (library / name).mkdir()
+            said = self.working(place="/", work=library).advice_on(name, "PATH")
+            self.assertIn(f"`vault add PATH` makes {'an assembly' if name != 'wing' else 'a project'} of it, and of all that is in it", said)
+            with find_folder(library).locked():
+                working = self.working(place="/", work=library)
+                working.make_planned(working.plan([name]), "")
+            self.assertEqual(find_folder(library).folders[name], place)
+        self.anna.nest("/engine/block/seals")
+        self.assertIn(f"is not known here as the folder of /engine/block/seals: `vault get / --to {library}`",
+                      self.working(place="/", work=library).advice_on("engine/block/seals", "PATH"))
         self.got("/", library)
-        self.anna.make("/engine/block/seals")
-        self.assertIn("rename it to seals_2; then `vault nest /engine/block/seals_2` makes an assembly of it",
-                      self.working(place="/", work=library).advice_on("engine/block/seals"))
-        self.assertEqual({"wing", "engine/gear_box", "engine/block/pleuel"} - set(find_folder(library).folders), set())
         self.assertEqual(find_folder(library).others(), [])
 
     def test_add_in_a_check_out_to_look(self) -> None:
@@ -964,7 +961,7 @@ class Program(WithFolder):
         said = self.as_json("add", str(work / "seals"), str(work / "zzz"), status=1)
         self.assertEqual(said["made"], {str(work / "zzz"): "/engine/block/zzz"})
         self.assertIn("makes 1 assembly and 1 part of 1 bytes in /engine/block. A place stays for good.", said["notices"][0])
-        self.assertIn("is /engine/block/zzz. Nothing was changed. Say the same with `--yes`", said["sentence"])
+        self.assertIn("is /engine/block/zzz. No folder was added. Say the same with `--yes`", said["sentence"])
         self.vault("nest", "/engine/block/seals")
         self.vault("get", "/engine/block", "--to", str(work))
         self.assertIn(b"is /engine/block/seals/ring.", self.vault("add", str(work / "seals" / "Ring")))
@@ -1027,9 +1024,10 @@ class Program(WithFolder):
         self.assertEqual([self.anna.drafts(standing.claim) for standing, _ in self.anna.mine()], [[], []])
         (work / "block" / "head" / "Bolzen").write_bytes(b"pin")
         (work / "block" / "Mutter").write_bytes(b"nut")
-        said = self.vault("status", str(work / "block" / "head")).decode()
-        for added in (work / "block" / "head" / "Bolzen", work / "block" / "Mutter"):
-            self.assertIn(f"`vault add {added}` makes a part of it.", said)
+        for inner, added in (("block/head", work / "block" / "head" / "Bolzen"), ("block/Mutter", work / "block" / "Mutter")):
+            lines = self.vault("status", str(work / inner)).decode().splitlines()
+            self.assertEqual([line for line in lines if "vault add" in line],
+                             [f"{added.relative_to(work)}: not in the vault; `vault add {added}` makes a part of it."])
 
     def test_what_no_part_can_be_made_of(self) -> None:
         """Status offers no `vault add` of what that refuses."""
@@ -1043,17 +1041,19 @@ class Program(WithFolder):
         self.assertNotIn("vault add", said)
         self.assertEqual(self.as_json("status", str(work))["others"], ["Bild.png", "block/link"])
         (work / "block" / "head").rename(work / "block" / "Kopf")
+        (work / "block" / "neu").mkdir()
         for name in ("block/a:b", "block/.hidden", ".hidden"):
             (work / name).write_bytes(b"x")
         said = self.vault("status", str(work)).decode()
-        for line in ("block/Kopf/ is the folder of no assembly, so no file in it is a part's: rename it to kopf; then `vault nest"
-                     f" /engine/block/kopf` makes an assembly of it, and `vault get /engine --to {work}` has this folder know that.",
+        for line in ("block/Kopf/ has the files of block/head, which is missing here: give it that name again, since an assembly keeps its name.",
+                     f"block/neu/ is the folder of no assembly, so no file in it is a part's: `vault add {work}/block/neu` makes an assembly of it,"
+                     " and of all that is in it.",
                      "block/head: missing here. It is the folder of /engine/block/head: if you renamed it, give it this name again.",
                      "block/a:b: not in the vault. No part's file can have this name on every system: it has `:`, which Windows doesn't take in a"
                      " name. Rename it."):
             self.assertIn(line + "\n", said)
         self.assertNotIn(".hidden", said)
-        self.assertEqual(self.as_json("status", str(work))["others"], ["Bild.png", "block/Kopf/", "block/a:b", "block/link"])
+        self.assertEqual(self.as_json("status", str(work))["others"], ["Bild.png", "block/Kopf/", "block/neu/", "block/a:b", "block/link"])
 
     def test_wrong_words(self) -> None:
         self.assertIn(b"is in no working folder", self.vault("status", str(self.root), status=2))

@@ -6,6 +6,7 @@ import threading
 import time
 from typing import Callable, List
 
+from vault.cli.counting import counted, first_rows
 from vault.cli.output import Output, Told
 from vault.cli.words import CheckinWords, ClaimWords, ExtendWords, GiveWords, ItemsWords, MineWords, NoteWords, PlaceWords, WaitWords
 from vault.client import Client
@@ -16,10 +17,13 @@ from vault.protocol.connection import Patience
 from vault.protocol.grammar import CHECKOUT, GONE
 from vault.protocol.standing import Holder, Standing, who_does
 from vault.protocol.transport import NotLetInError
+from vault.protocol.words import name_word
 
 ASKED_WHILE_HOLDING_SECONDS = 30.0
 FIRST_PAUSE_SECONDS = 1.0
 LONGEST_PAUSE_SECONDS = 60.0
+# Of how many parts the drafts of a check-out are named.
+FEW_DRAFTS = 10
 KEPT_OPEN_SECONDS = 5.0
 # How long the answer to `wait` may take before it is asked anew. An answer that comes sooner than the second number didn't wait.
 ANSWERED_WITHIN_SECONDS = 90.0
@@ -67,12 +71,8 @@ def checkin(client: Client, words: CheckinWords, output: Output) -> Told:
     settle_folders(client)
     if words.note is not None and noted < made:
         output.notice(f"{noted} of {made} versions have the note: the others are no files in a store, or the server is too old to tell of them.")
-    return f"{words.claim} is checked in: {counted(made, 'new version')}.", {"claim": words.claim, "versions": made, "noted": noted}
-
-
-def counted(number: int, what: str) -> str:
-    """A number of things in words."""
-    return f"{number or 'no'} {what}{'' if number == 1 else 's'}"
+    versions = counted(made, "new version") if made else "no new versions"
+    return f"{words.claim} is checked in: {versions}.", {"claim": words.claim, "versions": made, "noted": noted}
 
 
 def abandon(client: Client, words: ClaimWords, _output: Output) -> Told:
@@ -154,8 +154,13 @@ def in_a_row(client: Client, standing: Standing) -> str:
     return ", ".join(each.sentence().rstrip(".") for each in client.chain(standing.claim)) + "."
 
 
-def give(client: Client, words: GiveWords, _output: Output) -> Told:
-    """Gives a check-out to another designer."""
+def give(client: Client, words: GiveWords, output: Output) -> Told:
+    """Gives a check-out to another designer; first asks where no designer by that name was here yet."""
+    if not words.yes:
+        from vault.store.designers import has_been_there
+        if words.receiver != client.designer and not has_been_there(client, name_word(words.receiver)):
+            output.agree(f"Nobody called {words.receiver} has a check-out or a version in this vault so far: look whether the name is right. Who has"
+                         f" {words.claim} then is alone able to give it back.", False)
     client.give(words.claim, words.receiver)
     settle_folders(client)
     return (f"{words.claim} is {words.receiver}'s now, with its drafts. `vault mine {words.claim}` shows it to {words.receiver}.",
@@ -190,7 +195,9 @@ def mine(client: Client, words: MineWords, _output: Output) -> Told:
     found = client.mine(words.claims)
     fields = [{**standing.fields(), "items": claim.items, "drafts": drafts_of(standing, claim), "kept": sorted(claim.drafts),
                "given": claim.given or None} for standing, claim in found]
-    lines = [mine_line(standing, claim, client.designer) for standing, claim in found]
+    shown, left = first_rows(found, words.all)
+    lines = [mine_line(standing, claim, client.designer, words.all) for standing, claim in shown]
+    lines += [f"{counted(left, 'more check-out')}: `--all` lists them."] if left else []
     return "\n".join(lines or [f"You have no check-outs{' from here' if client.line.older else ''}."]), {"claims": fields}
 
 
@@ -199,9 +206,9 @@ def drafts_of(standing: Standing, claim: Claim) -> List[str]:
     return sorted(claim.drafts) if standing.drafts is None else list(standing.drafts)
 
 
-def mine_line(standing: Standing, claim: Claim, designer: str) -> str:
+def mine_line(standing: Standing, claim: Claim, designer: str, every: bool = False) -> str:
     """One check-out in words."""
-    drafts = "".join(f", draft of {place}" for place in drafts_of(standing, claim))
+    drafts = drafts_in_words(drafts_of(standing, claim), every)
     asked = f" Asked for {' '.join(claim.items)}{drafts}." if claim.items else f" Has{drafts[1:]}." if drafts else ""
     given = f" You gave it to {claim.given}." if claim.given else ""
     kept = (standing.gone or standing.anothers) and claim.drafts
@@ -209,15 +216,24 @@ def mine_line(standing: Standing, claim: Claim, designer: str) -> str:
     return standing.sentence(designer) + given + asked + rest
 
 
+def drafts_in_words(places: List[str], every: bool) -> str:
+    """Of which parts a check-out has drafts, in words: of many, how many these are."""
+    if len(places) > FEW_DRAFTS and not every:
+        return f", {counted(len(places), 'draft')} (`--all` names them)"
+    return "".join(f", draft of {place}" for place in places)
+
+
 def who(client: Client, words: PlaceWords, output: Output) -> Told:
     """Shows who holds what at a place, above it or beneath it, and who waits for what."""
     found = client.who(words.place)
     fields = [{**holder.fields(), "since": moment(since)} for holder, since in found]
+    shown, left = first_rows(found, words.all)
+    more = [f"{counted(left, 'more claim')} {'comes' if left == 1 else 'come'} behind these: `--all` lists them."] if left else []
     if found and output.tables:
-        output.table(("claim", "designer", "standing", "items", "known here since"), [who_row(holder, since) for holder, since in found])
-        sentence = ""
+        output.table(("claim", "designer", "standing", "items", "known here since"), [who_row(holder, since) for holder, since in shown])
+        sentence = "".join(more)
     else:
-        lines = [who_line(holder, since, client.designer) for holder, since in found]
+        lines = [who_line(holder, since, client.designer) for holder, since in shown] + more
         sentence = "\n".join(lines or [f"Nobody has anything at {words.place}, above it or beneath it, and nobody waits for it."])
     return sentence, {"place": words.place, "claims": fields}
 

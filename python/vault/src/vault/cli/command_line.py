@@ -74,8 +74,8 @@ def command_line() -> argparse.ArgumentParser:
         ("address", {"nargs": "?", "default": "", "metavar": "ADDRESS", "help": "file:///FOLDER, or rclone:REMOTE:PATH"}),
         ("--read", {"action": "store_true", "help": "check reads all bytes through their hash"}),
         ("--here", {"default": "", "metavar": "WAY", "help": "confirm: the way that this machine has to it, as /mnt/store or Z:\\store"}))
-    add(commands, "status", "shows how the files of a working folder stand",
-        ("folder", {"nargs": "?", "default": ".", "metavar": "FOLDER"}))
+    add(commands, "status", "shows how the files of a working folder stand, or one of them, or those in a folder of it",
+        ("folder", {"nargs": "?", "default": ".", "metavar": "FOLDER"}), EVERY)
     add(commands, "before", "shows the files that gave way in a working folder and are kept for some days, or brings one back",
         ("folder", {"nargs": "?", "default": ".", "metavar": "FOLDER"}),
         ("which", {"nargs": "?", "metavar": "WHICH", "help": "its time, as the list shows it"}),
@@ -96,24 +96,26 @@ NOTE = ("-m", {"dest": "note", "metavar": "NOTE", "help": "why: a line of at mos
 IN_PARTS = ("--in-parts", {"action": "store_true", "help": "more drafts than a check-out has are checked in by several, which isn't one change"})
 YES = ("--yes", {"action": "store_true", "help": "doesn't ask before"})
 ALL = ("--all", {"action": "store_true", "help": "names all that is left out, however much it is"})
+EVERY = ("--all", {"action": "store_true", "help": "lists all, where else so many of a kind are counted"})
 NAMED = ("--claim", {"default": "", "metavar": "CLAIM", "help": "the check-out that it belongs to"})
 
 
 def add_of_places(commands: Any) -> None:
     """Adds the commands that name a place."""
-    add(commands, "tree", "shows the places beneath one", ("place", {"nargs": "?", "default": "/", "metavar": "PLACE"}))
+    add(commands, "tree", "shows the places beneath one", ("place", {"nargs": "?", "default": "/", "metavar": "PLACE"}), EVERY)
     add(commands, "make", "makes a place: a project, an assembly in it, or a part", PLACE, NAMED)
     add(commands, "nest", "makes an assembly inside an assembly", PLACE, NAMED)
     add(commands, "put", "puts a file as the draft of a part, or the changed files of a working folder",
         ("place", {"metavar": "PLACE", "help": "as /engine/block/piston; or a working folder"}),
         ("file", {"nargs": "?", "metavar": "FILE"}), NAMED,
-        ("--name", {"default": "", "metavar": "NAME", "help": "the name that the part's file has from then on; else it keeps the one that it has"}))
+        ("--name", {"default": "", "metavar": "NAME", "help": "the name that the part's file has from then on; else it keeps the one that it has"}),
+        EVERY)
     add(commands, "get", "writes a version of a part, the last where none is named, or a whole assembly into a folder", PLACE,
         ("version", {"nargs": "?", "type": int, "metavar": "VERSION"}),
         ("--to", {"metavar": "FILE", "help": "a new file, in place of standard output; the folder for an assembly"}),
         ("--keep-days", {"type": days, "metavar": "DAYS", "help": "how long that folder keeps files that gave way to others (14)"}),
-        ("--writable", {"action": "store_true", "help": "files in that folder are writable, whether they are checked out or not"}))
-    add(commands, "history", "lists the versions of a part", PLACE)
+        ("--writable", {"action": "store_true", "help": "files in that folder are writable, whether they are checked out or not"}), EVERY)
+    add(commands, "history", "lists the versions of a part", PLACE, EVERY)
 
 
 def add_of_claims(commands: Any) -> None:
@@ -122,17 +124,17 @@ def add_of_claims(commands: Any) -> None:
     add(commands, "extend", "asks for more items for a check-out that is held", CLAIM, ITEMS)
     add(commands, "checkin", "makes versions of a check-out's drafts, and ends it",
         ("claim", {"metavar": "CLAIM", "help": "as c3; or a working folder, whose changed files are put first"}),
-        NOTE, IN_PARTS)
+        NOTE, IN_PARTS, EVERY)
     add(commands, "abandon", "gives a check-out up, with its drafts", CLAIM)
-    add(commands, "give", "gives a check-out to another designer, with its drafts", CLAIM, ("receiver", {"metavar": "NAME"}))
+    add(commands, "give", "gives a check-out to another designer, with its drafts", CLAIM, ("receiver", {"metavar": "NAME"}), YES)
     add(commands, "note", "writes a note on a check-out, or shows it where no text is given", CLAIM,
         ("text", {"nargs": "?", "metavar": "TEXT", "help": "at most 64 bytes; '' takes the note away"}))
     add(commands, "wait", "waits until a claim is held, and shows who is before it", CLAIM,
         ("--at-most", {"type": seconds, "default": float("inf"), "metavar": "SECONDS"}))
     add(commands, "mine", "shows your check-outs, and those from here that are gone", ("claims", {
-        "nargs": "*", "metavar": "CLAIM", "help": "one of yours from elsewhere, at a server that doesn't tell whose a check-out is"}))
+        "nargs": "*", "metavar": "CLAIM", "help": "one of yours from elsewhere, at a server that doesn't tell whose a check-out is"}), EVERY)
     add(commands, "who", "shows who holds what at a place, above it or beneath it, and who waits for it",
-        ("place", {"nargs": "?", "default": "/", "metavar": "PLACE"}))
+        ("place", {"nargs": "?", "default": "/", "metavar": "PLACE"}), EVERY)
     add(commands, "hold", "keeps items from changing until standard input ends", ITEMS)
     add(commands, "drafts", "shows of which parts a check-out has drafts, or writes the copies that are kept here into a folder", CLAIM,
         ("folder", {"nargs": "?", "metavar": "FOLDER"}))

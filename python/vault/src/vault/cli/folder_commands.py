@@ -4,6 +4,7 @@ import os
 from pathlib import Path
 from typing import Any, Dict, List, Tuple
 
+from vault.cli.counting import some_of
 from vault.cli.import_commands import add_folders
 from vault.cli.output import Output, Told
 from vault.cli.words import AddWords, BeforeWords, CheckinWords, GetWords, PutWords, StatusWords
@@ -19,7 +20,13 @@ from vault.working.folder import Folder, find_folder, read_folder
 from vault.working.found import State
 from vault.working.modes import settle_folders
 from vault.working.opening import folder_for
+from vault.working.renamed import Renamed
+from vault.working.scope import scope_of
 from vault.working.told import Done
+
+
+# What is to be known before a place is made.
+STAYS = "A place stays for good: no command removes one."
 
 
 def get_folder(parts: Parts, words: GetWords, to: str, output: Output) -> Told:
@@ -29,7 +36,7 @@ def get_folder(parts: Parts, words: GetWords, to: str, output: Output) -> Told:
         folder.keep_days, folder.writable = words.keep_days or folder.keep_days, words.writable or folder.writable
         done = Working(parts, folder).get()
         count = len(folder.files)
-    tell_left(done, output)
+    tell_left(done, words.all, output)
     tell_saved_aside(folder, to, done.saved_aside, output)
     fetched = f"{len(done.files)} of {count} files were fetched" if done.files else "nothing was fetched"
     fields = {"place": place, "folder": to, **fields_of(done), "all": count}
@@ -59,9 +66,10 @@ def put_folder(client: Client, words: PutWords, output: Output) -> Told:
     folder = whole_folder(words.place)
     with folder.locked():
         done = Working(parts_of_program(client, output.meter), folder).put(words.claim)
-    tell_left(done, output)
-    lines = [f"{shown(name)} is a draft of {folder.files[name].place} in {folder.files[name].claim}"
-             f"{' already' if name in done.drafts else ''}." for name in sorted(done.files + done.drafts)]
+    tell_left(done, words.all, output)
+    put_already = set(done.drafts)
+    lines = some_of([(shown(name), f"is a draft of {folder.files[name].place} in {folder.files[name].claim}"
+                                   f"{' already' if name in put_already else ''}.") for name in sorted(done.files + done.drafts)], words.all)
     if done.failed:
         failed = "1 file" if done.failed == 1 else f"{done.failed} files"
         error = VaultError(" ".join([*lines, f"{failed} of {words.place} could not be put, each for a reason of its own. See to these reasons, and"
@@ -77,28 +85,32 @@ def checkin_folder(client: Client, words: CheckinWords, output: Output) -> Told:
     with folder.locked():
         done = Working(parts_of_program(client, output.meter), folder).checkin(words.note, in_parts=words.in_parts)
     settle_folders(client)
-    tell_left(done, output)
+    tell_left(done, words.all, output)
     parts = f" It isn't one change: it took {len(done.claims)} check-outs." if words.in_parts and len(done.claims) > 1 else ""
     return done.checked_in() + parts, {**fields_of(done), "claims": done.claims, "versions": done.versions}
 
 
 def status(client: Client, words: StatusWords, output: Output) -> Told:
-    """Shows how the files of a working folder stand."""
+    """Shows how the files of a working folder stand, or of a part of it."""
     folder = find_folder(Path(words.folder))
     with folder.locked():
-        working, others = Working(Parts(client), folder), not_ignored(folder)
+        scope = scope_of(folder, words.folder)
+        working, others = Working(Parts(client), folder), [name for name in not_ignored(folder) if scope.has(name)]
         look = working.look()
-        lines = [f"{shown(state.file)}: {said}." for state in look.files if (said := state_in_words(state, folder, words.folder))]
-        lines += [f"{place}: version {number} is in the vault, and isn't here; `vault get {folder.place} --to"
-                  f" {path_in_words(folder, words.folder, '')}` fetches it." for place, number in look.new.items()]
-        lines += [f"{shown(name)}: missing here. It is the folder of {folder.folders[name]}: if you renamed it, give it this name again."
-                  for name in folder.missing_folders()]
-        lines += [other_in_words(working, words.folder, name) for name in others]
-        lines += [saved_aside_in_words(folder, words.folder, each) for each in look.saved_aside]
-    fields = {"place": folder.place, "files": [vars(state) for state in look.files], "others": others,
-              "saved_aside": [each.fields() for each in look.saved_aside],
-              "new": [{"place": place, "version": number} for place, number in look.new.items()]}
-    return "\n".join(lines or [f"Nothing is changed in {words.folder}, and nothing is newer in the vault."]), fields
+        files, new = [state for state in look.files if scope.has(state.file)], {each: look.new[each] for each in look.new if scope.has_place(each)}
+        saved_aside = [each for each in look.saved_aside if scope.has_place(each.place)]
+        lines = [(f"{shown(state.file)}:", f"{said}.") for state in files if (said := state_in_words(state, folder, words.folder))]
+        lines += [(f"{place}:", f"version {number} is in the vault, and isn't here; `vault get {folder.place} --to"
+                                f" {path_in_words(folder, words.folder, '')}` fetches it.") for place, number in new.items()]
+        lines += [(f"{shown(name)}:", f"missing here. It is the folder of {folder.folders[name]}: if you renamed it, give it this name again.")
+                  for name in folder.missing_folders() if scope.has(name)]
+        renamed = Renamed(folder)
+        lines += [other_in_words(working, renamed, words.folder, name) for name in others]
+        told = some_of(lines, words.all) + [saved_aside_in_words(folder, words.folder, each) for each in saved_aside]
+    fields = {"place": scope.place or folder.place, "files": [vars(state) for state in files], "others": others,
+              "saved_aside": [each.fields() for each in saved_aside],
+              "new": [{"place": place, "version": number} for place, number in new.items()]}
+    return "\n".join(told or [f"Nothing is changed in {words.folder}, and nothing is newer in the vault."]), fields
 
 
 def not_ignored(folder: Folder) -> List[str]:
@@ -108,18 +120,20 @@ def not_ignored(folder: Folder) -> List[str]:
     return [name for name in others if ignored is not None and not ignored(name)]
 
 
-def other_in_words(working: Working, word: str, name: str) -> str:
+def other_in_words(working: Working, renamed: Renamed, word: str, name: str) -> Tuple[str, str]:
     """What becomes of a file that belongs to no part, or of a folder of no assembly, for whoever named the working folder, or a folder in it,
-    by a word."""
+    by a word: its name, and what is said of it."""
     folder = working.folder
     if name.endswith("/") and not os.path.islink(folder.path / name[:-1]):
-        return f"{shown(name)} {working.advice_on(name[:-1])}."
+        return shown(name), f"{working.advice_on(name[:-1], path_in_words(folder, word, name[:-1]))}."
     if not name.endswith("/") and not usable(name.rpartition("/")[2]):
         why = why_not(name.rpartition("/")[2])
-        return f"{shown(name)}: not in the vault. No part's file can have this name on every system: it {why}. Rename it."
+        return f"{shown(name)}:", f"not in the vault. No part's file can have this name on every system: it {why}. Rename it."
     if name.endswith("/") or not folder.may_be_part(name):
-        return f"{shown(name)}: not in the vault. Parts are made of files in the folders of assemblies, and not of links."
-    return f"{shown(name)}: not in the vault; `vault add {path_in_words(folder, word, name)}` makes a part of it."
+        return f"{shown(name)}:", "not in the vault. Parts are made of files in the folders of assemblies, and not of links."
+    if was := renamed.in_words(name, path_in_words(folder, word, name)):
+        return shown(name), f"{was}."
+    return f"{shown(name)}:", f"not in the vault; `vault add {path_in_words(folder, word, name)}` makes a part of it."
 
 
 def path_in_words(folder: Folder, word: str, name: str) -> str:
@@ -194,6 +208,7 @@ def add(client: Client, words: AddWords, output: Output) -> Told:
     """Makes parts of files in a working folder, and assemblies of folders. What has a place is passed over; what can't be added is told, and the
     others are added all the same."""
     made: Dict[str, str] = {}
+    left: List[Tuple[str, str]] = []
     refused: List[VaultError] = []
     folders = [file for file in words.files if os.path.isdir(file) and not os.path.islink(file)]
     for file in words.files:
@@ -207,14 +222,16 @@ def add(client: Client, words: AddWords, output: Output) -> Told:
         if place:
             made[file] = place
         elif passed:
-            output.notice(f"{shown(file)} {passed}.")
+            left.append((shown(file), f"{passed}."))
+    for line in some_of(left, words.all):
+        output.notice(line)
     try:
         made.update(add_folders(client, [file for file in folders if not is_known(file)], words.yes, words.all, output))
     except VaultError as error:
         refused.insert(0, error)
     if refused:
-        raise not_added(refused, made, output)
-    return "\n".join(added(made) or ["Nothing was added."]), {"made": made}
+        raise not_added(refused, made, words.all, output)
+    return "\n".join([*added(made, words.all), STAYS] if made else ["Nothing was added."]), {"made": made}
 
 
 def is_known(word: str) -> bool:
@@ -223,13 +240,13 @@ def is_known(word: str) -> bool:
     return read_folder(path) is not None or path.relative_to((folder := find_folder(path.parent)).path).as_posix() in folder.folders
 
 
-def not_added(refused: List[VaultError], made: Dict[str, str], output: Output) -> VaultError:
+def not_added(refused: List[VaultError], made: Dict[str, str], every: bool, output: Output) -> VaultError:
     """Why something wasn't added, with what was."""
-    for other in refused[1:]:
-        output.notice(str(other))
+    for line in some_of([("", str(other)) for other in refused[1:]], every):
+        output.notice(line.strip())
     refused[0].fields["made"] = made
     if made:
-        refused[0].put_behind(" ".join(added(made)))
+        refused[0].put_behind(" ".join(added(made, every)))
     return refused[0]
 
 
@@ -247,15 +264,15 @@ def add_one(client: Client, path: Path) -> Tuple[str, str]:
         return (place, "") if working.made_again(tracked) else ("", f"is {place} already")
 
 
-def added(made: Dict[str, str]) -> List[str]:
+def added(made: Dict[str, str], every: bool) -> List[str]:
     """Of which files parts were made, in words."""
-    return [f"{shown(file)} is {place}." for file, place in made.items()]
+    return some_of([(shown(file), f"is {place}.") for file, place in made.items()], every)
 
 
-def tell_left(done: Done, output: Output) -> None:
+def tell_left(done: Done, every: bool, output: Output) -> None:
     """Says which files were left, and why, and what else is to be known of some."""
-    for name, reason in done.left + done.told:
-        output.notice(f"{shown(name)} {reason}.")
+    for line in some_of([(shown(name), f"{reason}.") for name, reason in done.left + done.told], every):
+        output.notice(line)
 
 
 def fields_of(done: Done) -> Dict[str, Any]:

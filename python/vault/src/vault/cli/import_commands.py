@@ -1,14 +1,14 @@
 """Commands of the program `vault` by which files and folders go into a vault as they are."""
 
 import os
-import sys
 from pathlib import Path
-from typing import Any, Dict, Sequence, Tuple
+from typing import Any, Dict, List, Sequence, Tuple
 
+from vault.cli.counting import counted, some_of
 from vault.cli.output import Output, Told
 from vault.cli.words import ImportWords
 from vault.client import Client
-from vault.errors import MisusedError, RefusedError
+from vault.errors import MisusedError
 from vault.files.text import quoted, shown
 from vault.protocol.grammar import DRAFTS
 from vault.protocol.words import place_word
@@ -37,9 +37,11 @@ def import_folder(client: Client, words: ImportWords, output: Output) -> Told:
     if count > DRAFTS and not words.in_parts:
         raise too_many_drafts(folder.path, count, command)
     if not count and not plan.folders:
-        return f"Nothing in {words.folder} is left to import.", {**plan_fields(plan), "place": folder.place, "files": []}
-    agree(f"{plan_in_words(plan, count, folder, working)} {'It takes several check-outs. ' if count > DRAFTS else ''}A place stays for good, and"
-          f" {words.folder} is a working folder of {folder.place} from then on, in which what isn't checked out is read-only.", words.yes, output)
+        left = not_in_vault(plan, Done())
+        return (f"Nothing in {words.folder} is left to import{f': {left} can not go in, as was said' if left else ''}.",
+                {**plan_fields(plan), "place": folder.place, "files": [], "left": left_fields(plan, Done())})
+    output.agree(f"{plan_in_words(plan, count, folder, working)} {'It takes several check-outs. ' if count > DRAFTS else ''}A place stays for good,"
+                 f" and {words.folder} is a working folder of {folder.place} from then on, in which what isn't checked out is read-only.", words.yes)
     with locked_anew(folder):
         working.make_above()
         claim, asked = working.check_out()
@@ -53,13 +55,23 @@ def import_folder(client: Client, words: ImportWords, output: Output) -> Told:
 def imported(plan: Plan, done: Done, folder: Folder, words: ImportWords, output: Output) -> Told:
     """What came of an import."""
     tell_some(done.left, words.all, output)
-    left = len(done.left) + len(plan.left) + len(plan.too_much)
-    rest = f" {counted(left, 'file or folder', 'files and folders')} {'is' if left == 1 else 'are'} not in the vault." if left else ""
     parts = f" It isn't one change: it took {len(done.claims)} check-outs." if len(done.claims) > 1 else ""
     said = done.checked_in() if done.claims else "No file was left to put."
-    return (f"{folder.place} has what is in {words.folder}. {said}{parts}{rest}",
+    left = not_in_vault(plan, done)
+    return (f"{folder.place} has what is in {words.folder}{f', but for {left}' if left else ''}. {said}{parts}",
             {**plan_fields(plan), "place": folder.place, "files": done.files, "claims": done.claims, "versions": done.versions,
-             "left": [{"file": name, "reason": reason} for name, reason in plan.left + plan.too_much + done.left]})
+             "left": left_fields(plan, done)})
+
+
+def not_in_vault(plan: Plan, done: Done) -> str:
+    """How much of a folder isn't in the vault, in words; nothing if all is."""
+    left = len(done.left) + len(plan.left) + len(plan.too_much)
+    return counted(left, "file or folder", "files and folders") if left else ""
+
+
+def left_fields(plan: Plan, done: Done) -> List[Dict[str, str]]:
+    """The same for --json, each with the reason."""
+    return [{"file": name, "reason": reason} for name, reason in plan.left + plan.too_much + done.left]
 
 
 def folder_to_import(parts: Parts, place: str, path: Path) -> Folder:
@@ -97,24 +109,12 @@ def add_folders(client: Client, folders: Sequence[str], yes: bool, every: bool, 
             plan = working.plan([name])
             tell_plan(plan, every, output)
             if plan.folders or plan.files:
-                agree(f"{plan_in_words(plan, plan.drafts, folder, working)} A place stays for good.", yes, output)
+                output.agree(f"{plan_in_words(plan, plan.drafts, folder, working)} A place stays for good.", yes, "No folder was added")
                 working.make_planned(plan, working.covering(folder.place))
             made.update({os.path.join(word, os.path.relpath(folder.path / each, path)): place for each, place in plan.files.items()})
             made.update({os.path.normpath(os.path.join(word, os.path.relpath(folder.path / each, path))): making.place
                          for each, making in plan.folders.items()})
     return made
-
-
-def agree(said: str, yes: bool, output: Output) -> None:
-    """Says what is about to be done, and goes on only if the designer wants it."""
-    output.notice(said)
-    if yes:
-        return
-    if output.as_json or not sys.stdin.isatty():
-        raise RefusedError("Nothing was changed. Say the same with `--yes`, if that is what you want.")
-    print("vault: Go on? [y/N] ", end="", file=sys.stderr, flush=True)
-    if sys.stdin.readline().strip().lower() not in ("y", "yes"):
-        raise RefusedError("Nothing was changed.")
 
 
 def plan_in_words(plan: Plan, drafts: int, folder: Folder, working: Working) -> str:
@@ -143,16 +143,9 @@ def tell_plan(plan: Plan, every: bool, output: Output) -> None:
 
 
 def tell_some(left: Sequence[Tuple[str, str]], every: bool, output: Output) -> None:
-    """Says why files were left: each, or as many as are read, and how many more there are of the same reason."""
-    for name, reason in left if every else left[:NAMED]:
-        output.notice(f"{shown(name)} {reason}.")
-    if not every and len(left) > NAMED:
-        output.notice(f"So it is with {len(left) - NAMED} more: `--all` names them.")
-
-
-def counted(number: int, one: str, many: str = "") -> str:
-    """A number of things in words."""
-    return f"{number:,} {one if number == 1 else many or one + 's'}"
+    """Says why files were left: each, or of many for one reason some, and how many more there are."""
+    for line in some_of([(shown(name), f"{reason}.") for name, reason in left], every):
+        output.notice(line)
 
 
 def plan_fields(plan: Plan) -> Dict[str, Any]:

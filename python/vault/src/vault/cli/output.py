@@ -6,7 +6,7 @@ import sys
 import time
 from typing import TYPE_CHECKING, Any, Dict, Iterator, List, Sequence, Tuple
 
-from vault.errors import NotKnownError, VaultError
+from vault.errors import NotKnownError, RefusedError, VaultError
 
 if TYPE_CHECKING:
     from vault.files.transfer import Moved
@@ -32,6 +32,17 @@ class Output:
         """Says what goes on, if somebody looks."""
         if sys.stderr.isatty() and not self.as_json:
             print("vault: " + sentence, file=sys.stderr)
+
+    def agree(self, said: str, yes: bool, undone: str = "Nothing was changed") -> None:
+        """Says what is about to be done, and goes on only if the designer wants it."""
+        self.notice(said)
+        if yes:
+            return
+        if self.as_json or not sys.stdin.isatty():
+            raise RefusedError(f"{undone}. Say the same with `--yes`, if that is what you want.")
+        print("vault: Go on? [y/N] ", end="", file=sys.stderr, flush=True)
+        if sys.stdin.readline().strip().lower() not in ("y", "yes"):
+            raise RefusedError(f"{undone}.")
 
     @contextlib.contextmanager
     def meter(self, what: str, size: int) -> "Iterator[Moved]":

@@ -1,20 +1,25 @@
 """Commands of the program `vault` for files: they are put, got and listed, and copies of drafts are written."""
 
+import contextlib
+import os
 import shutil
 import sys
 import tempfile
 from pathlib import Path
 from typing import List
 
+from vault.cli.counting import first_rows
 from vault.cli.folder_commands import get_folder, put_folder
 from vault.cli.output import Output, Told
 from vault.cli.words import DraftsWords, DraftWords, GetWords, PlaceWords, PutWords, WriteWords
 from vault.client import Client
-from vault.errors import MisusedError, RefusedError
+from vault.errors import MisusedError, RefusedError, VaultError
 from vault.files.names import choose_name, usable, why_not
 from vault.files.text import shown
 from vault.store.naming import name_place, names_of
-from vault.store.parts import Parts, Version, fields_of, parts_of_program
+from vault.store.parts import Parts, Put, Version, fields_of, parts_of_program
+from vault.working import Working
+from vault.working.folder import find_folder
 
 SHOWN_BYTES = 1 << 20
 
@@ -27,8 +32,29 @@ def put(client: Client, words: PutWords, output: Output) -> Told:
     if done.name and not usable(done.name):
         output.notice(f"The name {shown(done.name)} {why_not(done.name)}: whoever gets the assembly has the part's own name instead. Put it again"
                       " with `--name NAME`.")
-    return (f"{done.size:,} bytes are a draft of {words.place} in {done.claim}. `vault checkin {done.claim}` makes it a version.",
-            {"claim": done.claim, "place": words.place, "bytes": done.size, "sha256": done.sha256})
+    rename_here(client, words.place, Path(words.file), done)
+    return (f"{done.size:,} bytes are a draft of {words.place} in {done.claim}. `vault checkin {done.claim}` makes it a version"
+            f"{others_see(words, done)}.", {"claim": done.claim, "place": words.place, "bytes": done.size, "sha256": done.sha256,
+                                            "name": done.name or None})
+
+
+def others_see(words: PutWords, done: Put) -> str:
+    """What others have of a draft that was put, once it is a version."""
+    if not done.name:
+        return ""
+    kept = "" if words.name or done.name == Path(words.file or "").name else ": the part keeps its name, and `--name` gives it another"
+    return f", which others get as {shown(done.name)}{kept}"
+
+
+def rename_here(client: Client, place: str, file: Path, done: Put) -> None:
+    """Has a working folder know a part's file by its new name, if the one that was put stands there under the name that the part has now, and the
+    one that it had is missing."""
+    if file.name != done.name:
+        return
+    with contextlib.suppress(VaultError, OSError):
+        folder = find_folder(Path(os.path.abspath(file)).parent)
+        with folder.locked():
+            Working(Parts(client), folder).renamed(place, Path(os.path.abspath(file)).relative_to(folder.path).as_posix(), done.sha256, done.claim)
 
 
 def get(client: Client, words: GetWords, output: Output) -> Told:
@@ -74,17 +100,19 @@ def write(parts: Parts, version: Version, words: WriteWords, output: Output) -> 
 
 
 def history(client: Client, words: PlaceWords, output: Output) -> Told:
-    """Lists the versions of a part."""
+    """Lists the versions of a part, of many the latest."""
     versions = list(parts_of_program(client, output.meter).history(words.place))
     found = [fields_of(version) for version in versions]
-    rows = [history_row(version) for version in versions]
+    latest, left = first_rows(versions[::-1], words.all)
+    rows = [history_row(version) for version in reversed(latest)]
+    earlier = f"{left:,} earlier versions are there: `--all` lists them." if left else ""
     if not rows:
         sentence = f"{words.place} has no version yet."
     elif output.tables and any(version.card for version in versions):
         output.table(("version", "bytes", "sha256", "name", "by", "at", "note"), rows)
-        sentence = ""
+        sentence = earlier
     else:
-        sentence = "\n".join(history_line(row) for row in rows)
+        sentence = "\n".join(filter(None, [earlier, *map(history_line, rows)]))
     return sentence, {"place": words.place, "versions": found}
 
 

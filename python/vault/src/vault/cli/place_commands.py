@@ -1,5 +1,9 @@
 """Commands of the program `vault` that name a place: who the designer is, what there is, and what is made."""
 
+from collections import Counter
+from typing import Sequence
+
+from vault.cli.counting import MOST, counted
 from vault.cli.output import Output, Told
 from vault.cli.session import last_designer, remember_designer
 from vault.cli.vaults import remember_vault, vaults_in_words
@@ -7,6 +11,7 @@ from vault.cli.words import HelloWords, MakeWords, NoWords, PlaceWords
 from vault.client import Client
 from vault.files.text import shown
 from vault.protocol.address import address_word
+from vault.protocol.grammar import NAMES
 from vault.store.naming import keeps_name, names_of
 
 
@@ -40,13 +45,31 @@ def nest(client: Client, words: MakeWords, _output: Output) -> Told:
 
 
 def tree(client: Client, words: PlaceWords, _output: Output) -> Told:
-    """Shows the places beneath one, with the real names of what they are of."""
+    """Shows the places beneath one, with the real names of what they are of; of many only the upper ones, each with how many are beneath it."""
     every = list(client.tree(words.place))
     names = names_of(client, every)
     places = [place for place in every if not keeps_name(place, names)]
     top = words.place.rstrip("/").count("/")
-    lines = ["  " * (place.count("/") - top) + place.rpartition("/")[2] + named(names.get(place, "")) for place in places]
-    return "\n".join([words.place] + lines), {"place": words.place, "places": places, "names": names}
+    deepest = NAMES if words.all else shown_depth(places)
+    beneath = Counter("/".join(place.split("/")[:deepest + 1]) for place in places if place.count("/") > deepest)
+    lines = ["  " * (place.count("/") - top) + place.rpartition("/")[2] + named(names.get(place, "")) + told_beneath(beneath[place])
+             for place in places if place.count("/") <= deepest]
+    more = [f"{counted(len(places), 'place')} in all: `--all` lists them."] if beneath else []
+    return "\n".join([words.place, *lines, *more]), {"place": words.place, "places": places, "names": names}
+
+
+def shown_depth(places: Sequence[str]) -> int:
+    """How many names the deepest places have that are shown: of many places as many as are few, and at least the uppermost."""
+    depths = Counter(place.count("/") for place in places)
+    found = min(depths, default=NAMES)
+    while found < NAMES and sum(depths[each] for each in range(found + 2)) <= MOST:
+        found += 1
+    return found
+
+
+def told_beneath(count: int) -> str:
+    """How many places stand beneath one that aren't shown."""
+    return f"  ({counted(count, 'place')} beneath)" if count else ""
 
 
 def named(name: str) -> str:

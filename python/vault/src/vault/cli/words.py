@@ -32,9 +32,10 @@ class NoWords(Words):
 
 
 class PlaceWords(Words):
-    """A place, for `tree`, `history` and `who`."""
+    """A place, and whether all there is listed, for `tree`, `history` and `who`."""
 
     place: str
+    all: bool
 
 
 class MakeWords(Words):
@@ -45,12 +46,14 @@ class MakeWords(Words):
 
 
 class PutWords(Words):
-    """A part and its file, or a working folder and no file; the check-out that the draft belongs to; and the name that the part's file gets."""
+    """A part and its file, or a working folder and no file; the check-out that the draft belongs to; the name that the part's file gets; and
+    whether all is listed."""
 
     place: str
     file: Optional[str]
     claim: str
     name: str
+    all: bool
 
 
 class WriteWords(Words):
@@ -61,11 +64,13 @@ class WriteWords(Words):
 
 
 class GetWords(WriteWords):
-    """A part and its version, or an assembly; for its folder, how long files are kept there that give way, and whether all are writable."""
+    """A part and its version, or an assembly; for its folder, how long files are kept there that give way, whether all are writable, and whether
+    all is listed."""
 
     version: Optional[int]
     keep_days: Optional[int]
     writable: bool
+    all: bool
 
 
 class DraftWords(WriteWords):
@@ -93,16 +98,18 @@ class ExtendWords(ClaimWords):
 
 
 class CheckinWords(ClaimWords):
-    """A check-out or a working folder, why its versions are made, and whether that may take several check-outs."""
+    """A check-out or a working folder, why its versions are made, whether that may take several check-outs, and whether all is listed."""
 
     note: Optional[str]
     in_parts: bool
+    all: bool
 
 
 class GiveWords(ClaimWords):
-    """A check-out, and the designer who is to have it."""
+    """A check-out, and the designer who is to have it; and whether it isn't asked before."""
 
     receiver: str
+    yes: bool
 
 
 class NoteWords(ClaimWords):
@@ -124,9 +131,10 @@ class DraftsWords(ClaimWords):
 
 
 class MineWords(Words):
-    """Check-outs from elsewhere."""
+    """Check-outs from elsewhere, and whether all are listed."""
 
     claims: List[str]
+    all: bool
 
 
 class StoreWords(Words):
@@ -139,9 +147,10 @@ class StoreWords(Words):
 
 
 class StatusWords(Words):
-    """A working folder, or a folder in it."""
+    """A working folder, or a file or a folder in it, and whether all is listed."""
 
     folder: str
+    all: bool
 
 
 class BeforeWords(Words):

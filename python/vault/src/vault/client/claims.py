@@ -3,17 +3,17 @@
 import contextlib
 from collections import Counter
 from dataclasses import replace
-from typing import Dict, List, Optional, Sequence, Tuple
+from typing import Dict, List, Optional, Sequence, Set, Tuple
 
 from vault.client.memory import Claim, Command, Draft, by_number
 from vault.client.recovery import MINE, whose
 from vault.client.session import Session
 from vault.errors import LostError, MisusedError, RefusedError, UnreachableError, VaultError
-from vault.protocol.grammar import ANOTHERS, GONE, NAME, NOTE_BYTES, PLACE, UNKNOWN_COMMAND
+from vault.protocol.grammar import ANOTHERS, GONE, NOTE_BYTES, PLACE, UNKNOWN_COMMAND
 from vault.protocol.queue import chain, ring
 from vault.protocol.replies import SENTENCES, Reply, content_in, listed_in, number_in, standing_of
 from vault.protocol.standing import Holder, Standing
-from vault.protocol.words import checked, checkout_word, claim_word, item_words, place_word
+from vault.protocol.words import checkout_word, claim_word, item_words, name_word, place_word
 
 
 class ClaimsClient(Session):
@@ -43,6 +43,12 @@ class ClaimsClient(Session):
             self.memory.knows(line, place == "/")
             self.memory.save()
             return [(holder, self.memory.known[holder.claim].since) for holder in line]
+
+    def owners(self) -> Set[str]:
+        """The designers whose claims stand, and those of claims that this client heard of."""
+        with self._alone():
+            heard_of = {known.owner for known in self.memory.known.values() if known.owner}
+            return heard_of | {holder.owner for holder in self._line("/") or []}
 
     def held(self, place: str = "/") -> Dict[str, Sequence[str]]:
         """The held check-outs of this designer at a place, above it or beneath it, each with its items."""
@@ -88,7 +94,7 @@ class ClaimsClient(Session):
 
     def give(self, claim: str, receiver: str) -> None:
         """Gives a check-out to another designer, with its place in the queue, its drafts and its note."""
-        if checked(NAME, receiver, "designer's name") == self.designer:
+        if name_word(receiver) == self.designer:
             raise MisusedError(f"You are {receiver}. Name the designer who is to have {claim}.")
         self._end(Command("give", f"give {checkout_word(claim)} {receiver}", claim))
 
@@ -105,14 +111,15 @@ class ClaimsClient(Session):
 
     def mine(self, named: Sequence[str] = ()) -> List[Tuple[Standing, Claim]]:
         """The check-outs of this designer that stand, wherever they were asked for, and those remembered here that are gone or another's.
-        Such a one is listed once, and again as long as a copy of a draft that isn't a version is kept for it. At an older server these
-        are the remembered check-outs, and those that are named, which are remembered from then on."""
+        Such a one is listed once, and again as long as a copy of a draft that isn't a version is kept for it; one that was given away, until it
+        is checked in. At an older server these are the remembered check-outs, and those that are named, which are remembered from then on."""
         with self._alone():
             self._take_up(named)
             line = self._line("/")
             found = self._remembered() if line is None else self._stand(line)
             for standing, claim in found:
-                if (standing.gone or standing.anothers) and self.recovery.are_versions(claim):
+                given_and_ended = standing.gone and claim.given and self.recovery.have_newer_versions(claim)
+                if given_and_ended or ((standing.gone or standing.anothers) and self.recovery.are_versions(claim)):
                     del self.memory.claims[standing.claim]
                     claim.drafts = {}
             self.memory.save()

@@ -8,7 +8,7 @@ from vault.errors import NotKnownError, RefusedError, VaultError
 from vault.protocol.connection import Link
 from vault.protocol.grammar import ANOTHERS, GONE, IS_THERE, ITEMS, NO_PART, NO_VERSION, PLACE, QUEUED, TOO_MANY_ITEMS, UNKNOWN_COMMAND
 from vault.protocol.queue import Line
-from vault.protocol.replies import Reply, claim_in, content_in, listed_in, word_in
+from vault.protocol.replies import Reply, claim_in, content_in, listed_in, number_in, word_in
 from vault.protocol.standing import Holder
 
 LOOK_AHEAD = 64
@@ -131,6 +131,12 @@ class Recovery:
             if not reply.ok or word_in(reply, 1) != (draft.content or "-"):
                 return False
         return True
+
+    def have_newer_versions(self, claim: Claim) -> bool:
+        """Whether each part of which a check-out had a draft has got a version since that was put."""
+        counts = self.link.asked("count", list(claim.drafts))
+        return all(draft.versions is not None and count.ok and number_in(count, 1) > draft.versions
+                   for draft, count in zip(claim.drafts.values(), counts))
 
     def _found_put(self, command: Command) -> Optional[Reply]:
         """What became of a draft that was sent. It may be sent again only where the server still has the draft that it was to replace: else

@@ -4,7 +4,7 @@ import re
 from typing import List
 
 from vault.errors import MisusedError
-from vault.protocol.grammar import CHECKOUT, CLAIM, GREATEST, ITEM, ITEMS, PLACE
+from vault.protocol.grammar import CHECKOUT, CLAIM, GREATEST, ITEM, ITEMS, NAME, PLACE
 
 
 def checked(pattern: "re.Pattern[str]", word: str, what: str) -> str:
@@ -18,6 +18,11 @@ def place_word(word: str) -> str:
     """A place as it is written."""
     return checked(PLACE, word, "place: write `/`, or up to seven names of 1 to 32 characters each, of a-z, 0-9, _ and -, as /engine/block/piston."
                    " `vault add` makes a part of a file with any name")
+
+
+def name_word(word: str) -> str:
+    """A designer's name as it is written."""
+    return checked(NAME, word, "designer's name: write 1 to 32 of a-z, 0-9, _ and -")
 
 
 def claim_word(word: str) -> str:

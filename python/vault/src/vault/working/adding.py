@@ -4,11 +4,12 @@ import stat
 
 from vault.errors import MisusedError, RefusedError, UnreachableError
 from vault.files.names import part_name, usable, why_not
-from vault.files.text import quoted
+from vault.files.text import quoted, shown
 from vault.protocol.grammar import IS_THERE, NO_PLACE
 from vault.protocol.words import place_word
 from vault.working.remembered import Entry
 from vault.working.found import Found, covering
+from vault.working.renamed import Renamed, sha256_of
 
 TRIES = 5
 
@@ -24,26 +25,41 @@ class Adding(Found):
         seen = self.folder.seen(name)
         if seen is None or not stat.S_ISREG(seen.st_mode):
             raise MisusedError(f"{name} is no file in {self.folder.path}: it is not there, or is a link or a folder.")
+        renamed = Renamed(self.folder)
+        if renamed.renamed(name):
+            raise MisusedError(f"{shown(name)} {renamed.in_words(name, quoted(str(self.folder.at(name))))}.")
         place = self._made_before(name) or self._make_part(assembly, name)
         self.folder.files[name] = Entry(place, 0, "")
         self.folder.making.pop(name, None)
         self.folder.save()
         return place
 
-    def advice_on(self, name: str) -> str:
-        """What becomes of a folder that is no assembly's as far as this one knows, and what its designer does, in words."""
+    def advice_on(self, name: str, path: str) -> str:
+        """What becomes of a folder that is no assembly's as far as this one knows, and what its designer does, in words. The path is the one by
+        which the designer names it."""
         own, above = self.folder.uppermost(name)
         said = "is the folder of no assembly, so no file in it is a part's"
         if not usable(own) or not self.folder.may_have_assemblies(above):
             return f"{said}, and it can't be one. Move its files into an assembly's folder"
         inside, names = above.rstrip("/"), self.client.names(above) if self.client.is_assembly(above) else []
-        get = f"`vault get {self.folder.place} --to {quoted(str(self.folder.path))}` has this folder know that"
         if own in names and self.client.is_assembly(f"{inside}/{own}"):
-            return f"is not known here as the folder of {inside}/{own}: {get}"
-        named = part_name(own, names)
-        rename = "" if own == named else f"rename it to {named}; then "
-        command, made = "nest" if self.folder.is_assembly(above) else "make", "an assembly" if inside else "a project"
-        return f"{said}: {rename}`vault {command} {inside}/{named}` makes {made} of it, and {get}"
+            return (f"is not known here as the folder of {inside}/{own}: `vault get {self.folder.place} --to {quoted(str(self.folder.path))}` has"
+                    " this folder know that")
+        if renamed := self._renamed_folder(name):
+            return f"has the files of {shown(renamed)}, which is missing here: give it that name again, since an assembly keeps its name"
+        return f"{said}: `vault add {path}` makes {'an assembly' if inside else 'a project'} of it, and of all that is in it"
+
+    def _renamed_folder(self, name: str) -> str:
+        """The folder of an assembly that is missing here, if a folder beside it has a file of its, by name and bytes."""
+        above = name.rpartition("/")[0]
+        for each in self.folder.missing_folders():
+            files = [file for file in self.folder.files if file.startswith(each + "/")] if each.rpartition("/")[0] == above else []
+            for file in files:
+                entry, here = self.folder.files[file], name + file[len(each):]
+                seen = self.folder.seen(here)
+                if seen is not None and entry.sha256 and seen.st_size == entry.size and sha256_of(self.folder, here) == entry.sha256:
+                    return each
+        return ""
 
     def made_again(self, name: str) -> bool:
         """Makes the part of a file again, if the vault, which came back from a backup, has it no more. Whether it did."""
@@ -67,7 +83,8 @@ class Adding(Found):
         above, _, file = name.rpartition("/")
         assembly, refused = self.folder.folders.get(above), f"No part can be made of {name!a}"
         if assembly is None:
-            raise MisusedError(f"{refused}: {above!a} {self.advice_on(above)}.")
+            uppermost = self.folder.path / self.folder.uppermost_path(above)
+            raise MisusedError(f"{refused}: {above!a} {self.advice_on(above, quoted(shown(str(uppermost))))}.")
         if not self.folder.may_have_parts(above):
             raise MisusedError(f"{refused}: it stands in no assembly's folder. `vault make {assembly.rstrip('/')}/NAME` makes"
                                f" {'a project' if assembly == '/' else 'an assembly'}; move it into an assembly's folder.")

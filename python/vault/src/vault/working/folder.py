@@ -43,6 +43,11 @@ class Folder(Disk):
         known = max((each for each in self.folders if not each or name.startswith(each + "/")), key=len)
         return name[len(known):].strip("/").partition("/")[0], self.folders[known]
 
+    def uppermost_path(self, name: str) -> str:
+        """The path of the same folder."""
+        known = max((each for each in self.folders if not each or name.startswith(each + "/")), key=len)
+        return self.joined(known, self.uppermost(name)[0])
+
     def may_have_parts(self, above: str) -> bool:
         """Whether files in a folder may be parts: it is an assembly's."""
         return self.is_assembly(self.folders.get(above, "/"))

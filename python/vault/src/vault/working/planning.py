@@ -11,10 +11,11 @@ from vault.client.many import Making
 from vault.errors import RefusedError
 from vault.files.ignoring import IGNORE_FILE, Ignored
 from vault.files.names import folded, part_name, usable, why_not
-from vault.files.text import why
+from vault.files.text import quoted, shown, why
 from vault.protocol.grammar import BENEATH, DRAFTS, NAMES, PLACES
 from vault.store.naming import Surveyed, is_of_names, name_place
 from vault.working.folder import Folder
+from vault.working.renamed import Renamed
 from vault.working.remembered import OWN
 
 MOVE_SOME = "move some of them into a folder of their own"
@@ -66,7 +67,7 @@ class Planner:
         self.real = {(place.rpartition("/")[0] or "/", surveyed.names.get(place, place.rpartition("/")[2])): place
                      for place in surveyed.assemblies if place != "/"}
         self.taken = {entry.place for entry in folder.files.values()}
-        self.alike = folder.alike()
+        self.alike, self.renamed = folder.alike(), Renamed(folder)
 
     def look(self, name: str) -> None:
         """Looks at a file or a folder, and at all in it. Its folder has to be known."""
@@ -149,6 +150,9 @@ class Planner:
             what = "a project" if above == "/" else "an assembly"
             self.plan.left.append((name, f"stands in no assembly's folder, and parts stand in assemblies alone: move it into a folder, which becomes"
                                          f" {what}"))
+            return
+        if self.renamed.renamed(name):
+            self.plan.left.append((name, self.renamed.in_words(name, quoted(shown(str(self.folder.at(name)))))))
             return
         place = self._made_before(name) or f"{above}/{part_name(own, self.beneath[above])}"
         if place.rpartition("/")[2] in self.beneath[above] or self._has_room(name, above, 1):

@@ -11,6 +11,7 @@ from vault.store.naming import named_by, read_name
 from vault.store.parts import Version
 from vault.working.found import Saved, State, covering, was_put
 from vault.working.putting_many import PuttingMany, ToPut
+from vault.working.renamed import is_beside
 from vault.working.told import NOT_COVERED, REASONS, Done, another, in_words, put_already, reason_against
 
 
@@ -96,6 +97,16 @@ class Putting(PuttingMany):
                                f" `vault checkin {other}` checks it in as it is.")
         for each in claims:
             self._check_in(each, note, done)
+
+    def renamed(self, place: str, name: str, sha256: str, claim: str) -> None:
+        """Knows a part's file by a new name from now on, if that is of no part, and the file of the earlier one in the same folder is missing. What
+        was put of it is a draft."""
+        before = next((each for each, entry in self.folder.files.items() if entry.place == place), "")
+        if not before or name in self.folder.files or not is_beside(before, name) or self.folder.seen(before) is not None:
+            return
+        entry = self.folder.files[name] = self.folder.files.pop(before)
+        entry.draft, entry.claim, entry.size = sha256, claim, -1
+        self.folder.save()
 
     def _put_or_leave(self, state: State, fitting: List[str], there: Optional[Saved], done: Done) -> List[ToPut]:
         """What is put of a file: it, if it was changed, or was put and is another now, unless it is the draft that is there, or a reason is
