@@ -289,17 +289,7 @@ class Contrib(unittest.TestCase):
                          f" {function}; printf '%s\\n' \"${{COMPREPLY[@]}}\"").split()
 
     def test_completion(self) -> None:
-        offered = self.completed("vault", "_vault", "vault", "")
-        for word in self.client_words():
-            command = {"--to": "get", "--keep-days": "get", "--writable": "get", "--at-most": "wait", "--claim": "put", "--name": "put",
-                       "--read": "store", "--here": "store", "--yes": "import", "--all": "import", "--in-parts": "import"}.get(word, "")
-            self.assertIn(word, self.completed("vault", "_vault", "vault", command, "--") if command else offered)
-        self.assertEqual(self.completed("vault", "_vault", "vault", "--as", "anna@h:1", "che"), ["checkout", "checkin"])
-        self.assertEqual(self.completed("vault", "_vault", "vault", "put", "/e/b/p", str(CONTRIB) + "/inst"), [str(CONTRIB) + "/install"])
-        self.assertEqual(self.completed("vault", "_vault", "vault", "store", "s"), ["set"])
-        self.assertEqual(self.completed("vault", "_vault", "vault", "add", str(CONTRIB) + "/inst"), [str(CONTRIB) + "/install"])
-        self.assertEqual(self.completed("vault", "_vault", "vault", "status", str(CONTRIB) + "/ma"), [str(CONTRIB) + "/man"])
-        self.assertEqual(self.completed("vault", "_vault", "vault", "checkin", "c1", "-"), ["-m"])
+        """That of vaultd; tests/test_completion.py has the client's."""
         self.assertEqual(self.completed("vaultd", "_vaultd", "vaultd", "se"), ["serve"])
         self.assertEqual(self.completed("vaultd", "_vaultd", "vaultd", "serve", "a", "b", "x", "--wo"), ["--workers"])
         for command in ("script", "create", "check", "inspect", "serve"):

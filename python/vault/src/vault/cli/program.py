@@ -60,6 +60,9 @@ def run(given: Given, output: Output) -> None:
 
 def main(arguments: Optional[List[str]] = None) -> int:
     """The program: 0 done, 1 refused, 2 the command line is wrong, 3 not known yet or no server."""
+    if "_ARGCOMPLETE" in os.environ:
+        from vault.cli.completing import complete
+        return complete()
     prepare_streams()
     line = sys.argv[1:] if arguments is None else arguments
     output = Output("", "--json" in line)
