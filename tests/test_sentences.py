@@ -1,10 +1,16 @@
 """Sentences that say what a designer does next: each has its row."""
 
+import contextlib
 import os
+import pty
+import re
+import subprocess
 import unittest
 from pathlib import Path
 from typing import Dict, List
+from unittest import mock
 
+from servers import program
 from stores import NAME, PART, WithStore
 
 from vault import RefusedError
@@ -287,6 +293,60 @@ class PartOfAFolder(WithStore):
         self.assertIn("isn't there, and nothing by this name", self.as_json("status", str(work / "block" / "none"), status=2)["sentence"])
         (work / "block" / NAME).unlink()
         self.assertIn("missing here", self.as_json("status", str(work / "block" / NAME))["sentence"])
+
+
+class Colours(WithStore):
+    """A terminal has colours; a pipe, NO_COLOR and a dumb terminal have none, and nothing is loaded for them."""
+
+    def setUp(self) -> None:
+        super().setUp()
+        self.put_version()
+        self.as_program()
+        self.work = self.root / "work"
+        self.vault("get", "/engine", "--to", str(self.work))
+        self.vault("checkout", f"w:{PART}")
+        (self.work / "block" / NAME).write_bytes(b"changed")
+        (self.work / "block" / "new").write_bytes(b"new")
+
+    def at_terminal(self, *words: str, **more: str) -> str:
+        """What the program shows at a terminal."""
+        environment = {**self.environment(), "TERM": "xterm-256color", "COLUMNS": "200", **more}
+        ours, theirs = pty.openpty()
+        with subprocess.Popen([*program("vault"), *words], env=environment, stdin=theirs, stdout=theirs, stderr=theirs) as process:
+            os.close(theirs)
+            said = b""
+            with contextlib.suppress(OSError):
+                while piece := os.read(ours, 65536):
+                    said += piece
+            process.wait()
+        os.close(ours)
+        return said.decode().replace("\r\n", "\n")
+
+    def test_words(self) -> None:
+        """The words are the same, and what went wrong is red."""
+        for words, status in ((("status", str(self.work)), 0), (("tree",), 0), (("history", "/none"), 1), (("mine",), 0)):
+            plain = self.vault(*words, status=status).decode()
+            coloured = self.at_terminal(*words)
+            self.assertEqual(re.sub(r"\x1b\[[0-9;]*m", "", coloured), plain)
+            self.assertEqual("\x1b[" in coloured, words[0] != "mine", words)
+            for more in ({"NO_COLOR": "1"}, {"TERM": "dumb"}):
+                self.assertEqual(self.at_terminal(*words, **more), plain)
+        self.assertTrue(self.at_terminal("history", "/none").startswith("\x1b[1;31mvault:\x1b[0m "))
+        self.assertIn("\x1b[32mchecked out by you\x1b[0m in \x1b[1mc3\x1b[0m", self.at_terminal("status", str(self.work)))
+        self.assertIn("\x1b[32mheld    \x1b[0m", self.at_terminal("who"))
+        self.assertNotIn("\x1b", self.at_terminal("who", NO_COLOR="1"))
+        self.assertIn('"done": true', self.at_terminal("--json", "status", str(self.work)))
+
+    def test_what_is_loaded(self) -> None:
+        """Where nobody looks, what makes colours isn't loaded; where it isn't there, the words come without."""
+        (self.root / "rich.py").write_text("import os\nopen(os.environ['LOADED'], 'w').close()\nraise ImportError('there is none')\n", "ascii")
+        loaded = self.root / "loaded"
+        with mock.patch.dict(os.environ, {"PYTHONPATH": str(self.root), "LOADED": str(loaded)}):
+            for words, status in ((("status", str(self.work)), 0), (("tree",), 0), (("who",), 0), (("history", "/none"), 1), (("history", PART), 0)):
+                self.vault(*words, status=status)
+                self.assertFalse(loaded.exists(), words)
+            self.assertEqual(self.at_terminal("tree"), self.vault("tree").decode())
+        self.assertTrue(loaded.exists())
 
 
 if __name__ == "__main__":

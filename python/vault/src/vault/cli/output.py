@@ -2,9 +2,10 @@
 
 import contextlib
 import json
+import os
 import sys
 import time
-from typing import TYPE_CHECKING, Any, Dict, Iterator, List, Sequence, Tuple
+from typing import TYPE_CHECKING, Any, Dict, Iterator, List, Sequence, TextIO, Tuple
 
 from vault.errors import NotKnownError, RefusedError, VaultError
 
@@ -12,6 +13,8 @@ if TYPE_CHECKING:
     from vault.files.transfer import Moved
 
 METER_SECONDS = 1.0
+# How a table shows how a claim stands.
+STYLES = {"held": "green", "queued": "yellow"}
 Told = Tuple[str, Dict[str, Any]]
 
 
@@ -90,8 +93,8 @@ class Output:
         from rich.text import Text
         drawn = Table(*columns)
         for row in rows:
-            drawn.add_row(*(Text(cell) for cell in row))
-        Console().print(drawn)
+            drawn.add_row(*(Text(cell, STYLES.get(cell.partition(" ")[0], "")) for cell in row))
+        Console(color_system="auto" if in_colours(sys.stdout) else None).print(drawn)
 
     def answer(self, sentence: str, fields: Dict[str, Any]) -> None:
         """Says what was done."""
@@ -102,6 +105,8 @@ class Output:
         if self.as_json:
             told = {"command": self.command, "done": done, "sentence": sentence, **fields, "notices": self.notices}
             print(json.dumps(told), flush=True)
+        elif "\n" in sentence:
+            show(sentence, sys.stdout)
         elif sentence:
             print(sentence, flush=True)
 
@@ -112,4 +117,20 @@ class Output:
             print(json.dumps({"command": self.command, "done": done, "code": error.code, "sentence": str(error), **error.fields,
                               "notices": self.notices}), flush=True)
         else:
-            print("vault: " + str(error), file=sys.stderr)
+            show("vault: " + str(error), sys.stderr, True)
+
+
+def in_colours(stream: TextIO) -> bool:
+    """Whether somebody looks at a stream, on a terminal that has colours, and wants them."""
+    return stream.isatty() and not os.environ.get("NO_COLOR") and os.environ.get("TERM", "dumb" if os.name == "posix" else "") != "dumb"
+
+
+def show(text: str, stream: TextIO, wrong: bool = False) -> None:
+    """Prints a text, in colours where somebody looks and what makes them is installed. It takes longer to load than most commands take, so a
+    single line that says what was done has none."""
+    if in_colours(stream):
+        with contextlib.suppress(ImportError):
+            from vault.cli import colours
+            colours.show(text, stream, wrong)
+            return
+    print(text, file=stream, flush=True)
