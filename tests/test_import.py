@@ -17,6 +17,9 @@ from vault.store.naming import can_be_named, is_of_names, name_place, named_by, 
 ASSEMBLIES = ("Geh\u00e4use (Guss)", "Kurbelwelle", "Normteile [DIN]", "Zylinderkopf & Ventile", "\u6d3b\u585e", "Alt")
 ODD = ("Welle.SLDPRT", "WELLE.SLDPRT", "Kolben 80 (neu).SLDPRT", "\u00d6lwanne #3.prt", "Flansch.pdf", "-rf", "a'b.dwg", "'; drop", "$HOME.stp",
        "x" * 120)
+# What CAD programs, office programs and desktops leave among them.
+LEFT_BY_PROGRAMS = ("Alt/~$Teil 1.SLDPRT", "Alt/.~lock.Liste.ods#", "Alt/innen.tmp", "Alt/alt.bak", "Alt/Thumbs.db", "Kurbelwelle/desktop.ini",
+                    ".DS_Store")
 
 
 class Naming(unittest.TestCase):
@@ -59,8 +62,7 @@ class WithFiles(WithStore):
             files[f"{ASSEMBLIES[0]}/innen/{name}"] = b"" if count == 3 else b"inner %d" % count
         files[f"{ASSEMBLIES[0]}/Zeichnung.pdf"] = b"drawing"
         self.lay(files)
-        self.lay({"Alt/~$Teil 1.SLDPRT": b"lock", "Alt/Thumbs.db": b"t", ".DS_Store": b"d", "Alt/alt.bak": b"b", "Alt/notes.log": b"l",
-                  ".vaultignore": b"*.log\n# nothing else\n"})
+        self.lay({**dict.fromkeys(LEFT_BY_PROGRAMS, b"left"), "Alt/notes.log": b"l", ".vaultignore": b"*.log\n# nothing else\n"})
         return files
 
     def lay(self, files: Dict[str, bytes]) -> None:
@@ -117,7 +119,7 @@ class InAndOut(WithFiles):
         said = self.imported("/motor", "--yes", "--in-parts", "-m", "as it was")
         self.assertEqual(said["versions"], len(files))
         self.assertIn("It isn't one change", said["sentence"])
-        self.assertEqual(sorted(said["ignored"]), [".DS_Store", "Alt/Thumbs.db", "Alt/alt.bak", "Alt/notes.log", "Alt/~$Teil 1.SLDPRT"])
+        self.assertEqual(sorted(said["ignored"]), sorted([*LEFT_BY_PROGRAMS, "Alt/notes.log"]))
         self.assertEqual(self.got("/motor"), files)
         self.assertEqual({name.partition("/")[2] for name in self.got("/") if name.startswith("Motor 2024/")}, set(files))
         self.assertIn("Nothing is changed", self.as_json("status", str(self.cad / "Kurbelwelle"))["sentence"])

@@ -6,10 +6,11 @@ import subprocess
 import unittest
 from typing import Any, Dict
 
-from servers import MEMORY, Server, program
+from servers import MEMORY, Server, lay_programs, program
 from stores import NAME, PART, WithStore
 
 from vault import Client
+from vault.store.parts import Parts
 
 
 class Paths(WithStore):
@@ -76,6 +77,78 @@ class Paths(WithStore):
         self.assertIn("is called plant here", self.as_json("hello", f"anna@127.0.0.1:{self.server.port}", "--name", "plant", status=2)["sentence"])
         self.assertEqual(self.here("tree", VAULT_AS=f"anna@127.0.0.1:{self.server.port}")["places"][0], "/engine")
         self.assertEqual(self.here("--as", f"anna@127.0.0.1:{other.port}", "tree")["places"], ["/plant"])
+
+    def test_a_vaults_name(self) -> None:
+        """Each command that names a place takes one of another vault by that vault's name, wherever it is said."""
+        other = Server("--workers", "16", folder=MEMORY)
+        self.addCleanup(other.close)
+        other.start()
+        self.vault("hello", f"anna@127.0.0.1:{other.port}", "--name", "plant")
+        self.vault("hello", f"anna@127.0.0.1:{self.server.port}")
+        (self.root / "cad" / "Gestell").mkdir(parents=True)
+        (self.root / "cad" / "Gestell" / "Fuss").write_bytes(b"foot")
+        (self.root / "short").write_bytes(b"ram 1")
+        for words, field, wanted in (
+                (("make", "plant:/press"), "place", "/press"), (("make", "plant:/press/ram"), "place", "/press/ram"),
+                (("make", "plant:/press/ram/bolt"), "place", "/press/ram/bolt"), (("nest", "plant:/press/ram/head"), "place", "/press/ram/head"),
+                (("checkout", "w:plant:/press/ram/bolt"), "claim", "c1"), (("extend", "c1", "r:plant:/press/ram"), "claim", "c1"),
+                (("put", "plant:/press/ram/bolt", str(self.root / "short")), "claim", "c1"),
+                (("draft", "c1", "plant:/press/ram/bolt"), "claim", "c1"),
+                (("who", "plant:/press"), "place", "/press"), (("--as", f"anna@127.0.0.1:{other.port}", "checkin", "c1"), "versions", 1),
+                (("history", "plant:/press/ram/bolt"), "place", "/press/ram/bolt"), (("get", "plant:/press/ram/bolt"), "place", "/press/ram/bolt"),
+                (("get", "plant:/press", "--to", str(self.root / "press")), "all", 1), (("tree", "plant:/"), "place", "/"),
+                (("hold", "r:plant:/press"), "claim", "h1"), (("import", str(self.root / "cad"), "plant:/cell", "--yes"), "place", "/cell")):
+            with self.subTest(words=words):
+                self.assertEqual(self.last(*words)[field], wanted)
+        self.assertEqual(set(self.as_json("tree", "plant:/")["places"]) & {"/cell/gestell/fuss", "/press/ram/head"},
+                         {"/cell/gestell/fuss", "/press/ram/head"})
+        self.assertEqual(self.as_json("tree")["places"][0], "/engine")
+        self.assertEqual(self.last("status", str(self.root / "press"))["place"], "/press")
+
+    def last(self, *words: str) -> Dict[str, Any]:
+        """What the program says in JSON, the last of it."""
+        return dict(json.loads(self.vault("--json", *words).splitlines()[-1]))
+
+    def test_a_shells_patterns(self) -> None:
+        """What a shell makes of a pattern is what is meant, with each name and its place."""
+        (self.work / "block" / "Ring 1.SLDPRT").write_bytes(b"ring")
+        (self.work / "block" / "Ring 2.SLDPRT").write_bytes(b"ring 2")
+        (self.root / "programs").mkdir()
+        lay_programs(self.root / "programs")
+        environment = {**self.environment(), "PATH": f"{self.root / 'programs'}:{os.environ['PATH']}"}
+        for line, wanted in (("vault --json add block/Ring*", ["/engine/block/ring_1_sldprt", "/engine/block/ring_2_sldprt"]),
+                             ("vault --json checkout block/Ring* r:block", ["w:/engine/block/ring_1_sldprt", "w:/engine/block/ring_2_sldprt"]),
+                             ("vault --json status *lock", ["/engine/block"]), ("vault --json history block/Kolb*", [PART])):
+            done = subprocess.run(["bash", "-c", line], cwd=self.work, env=environment, capture_output=True, text=True, timeout=60, check=False)
+            self.assertEqual(done.returncode, 0, (line, done.stdout, done.stderr))
+            said = json.loads(done.stdout)
+            if "checkout" in line:
+                self.assertEqual(self.here("mine")["claims"][0]["items"], [*wanted, "r:/engine/block"])
+                self.assertIn("block/Ring 2.SLDPRT is /engine/block/ring_2_sldprt.", said["notices"])
+            else:
+                self.assertEqual(list(said["made"].values()) if "made" in said else [said["place"]], wanted, line)
+
+    def test_one_store(self) -> None:
+        """A store that is confirmed at one vault is followed at each that names it, which is said once; another designer of the account, and another
+        address, want a word of their own."""
+        other = Server("--workers", "16", folder=MEMORY)
+        self.addCleanup(other.close)
+        other.start()
+        eve = Client("eve", "127.0.0.1", other.port, self.root / "elsewhere")
+        Parts(eve).setting.set(self.address())
+        for place in ("/plant", "/plant/press", "/plant/press/ram"):
+            eve.make(place)
+        self.vault("hello", f"anna@127.0.0.1:{other.port}", "--name", "plant")
+        said = self.as_json("store")
+        self.assertEqual((said["confirmed"], said["notices"]),
+                         (self.address(), [f"This vault keeps its files at {self.address()}, too, which you follow already."]))
+        self.assertEqual(self.as_json("store")["notices"], [])
+        claim = str(self.as_json("checkout", "w:/plant/press/ram")["claim"])
+        self.vault("put", "/plant/press/ram", str(self.file))
+        self.assertEqual(self.as_json("--as", f"carl@127.0.0.1:{other.port}", "store")["confirmed"], None)
+        Parts(eve).setting.set(f"file://{self.root}/another")
+        self.assertEqual(self.as_json("store")["confirmed"], self.address())
+        self.assertIn("which you have not confirmed", self.as_json("checkin", claim, status=1)["sentence"])
 
     def test_strange_folders(self) -> None:
         """What anybody wrote as a working folder's server leads to no vault that wasn't said hello to."""

@@ -88,6 +88,10 @@ class Words(WithStore):
         said = self.as_json("put", str(self.root / "work"))
         self.assertEqual(said["left"][0]["reason"], f"{claim} takes it in, and waits still: `vault wait {claim}` tells when it is held")
         self.assertIn(f"`vault wait {claim}` tells", self.as_json("checkin", str(self.root / "work"), status=1)["sentence"])
+        for words in (("put", PART, str(self.file)), ("put", PART, str(self.file), "--claim", claim), ("checkin", claim),
+                      ("extend", claim, "w:/engine/block"), ("make", "/engine/block/more", "--claim", claim)):
+            self.assertEqual(self.as_json(*words, status=1)["sentence"],
+                             f"{claim} waits still, so nothing was changed. `vault wait {claim}` tells when it is held.", words)
 
 
 class Kinds(unittest.TestCase):

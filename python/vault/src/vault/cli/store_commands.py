@@ -65,7 +65,8 @@ def set_store(setting: Setting, address: str, output: Output) -> Told:
 
 def show_store(setting: Setting) -> Told:
     """Shows what the vault names, and what is confirmed."""
-    named, (confirmed, here) = setting.named(), setting.client.confirmed_store()
+    named = setting.named()
+    confirmed, here = setting.client.confirmed_store(named)
     fields = {"store": named or None, "confirmed": confirmed or None, "here": here or None}
     if not named:
         return "The vault names no store, so a part has at most 1,024 bytes. `vault store set ADDRESS` names one.", fields

@@ -122,6 +122,18 @@ class Memory:
         }
         write_whole(self.path, json.dumps(kept, indent=1).encode("utf-8"))
 
+    def confirmed_elsewhere(self, designer: str, address: str) -> Optional[str]:
+        """This machine's own way to a store that a designer has confirmed at another vault, which is empty where that is its address; nothing if
+        none of this designer's files here says so."""
+        for path in sorted(self.path.parent.glob("*.json")):
+            if path == self.path or not path.name.startswith(designer + "@"):
+                continue
+            with contextlib.suppress(OSError, ValueError, AttributeError):
+                kept = json.loads(path.read_text("utf-8"))
+                if kept.get("store") == address:
+                    return str(kept.get("way") or "")
+        return None
+
     def begin(self, command: Command) -> None:
         """Remembers a command before it is sent."""
         command.last_number, command.since = self.last_number, time.time()

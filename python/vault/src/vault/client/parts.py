@@ -7,8 +7,9 @@ from vault.client.claims import ClaimsClient
 from vault.client.memory import Claim, Command, Draft
 from vault.client.recovery import MINE, hash_of_draft, whose
 from vault.errors import MisusedError, RefusedError, UnreachableError
+from vault.files.text import shown
 from vault.protocol.grammar import CONTENT_BYTES, GONE, GREATEST, NO_VERSION, PLACE, UNKNOWN_COMMAND, under
-from vault.protocol.replies import content_in, listed_in, number_in
+from vault.protocol.replies import content_in, listed_in, number_in, refusal_of
 from vault.protocol.words import checkout_word, place_word
 
 
@@ -53,7 +54,7 @@ class PartsClient(ClaimsClient):
             found = checkout_word(claim) if claim else self._claim_for(place)
             whose_it_is = self.link.read(whose(found))
             if whose_it_is.code != MINE[0]:
-                raise whose_it_is.refusal()
+                raise refusal_of(whose_it_is, found)
         return found
 
     def get(self, place: str, version: Optional[int] = None) -> bytes:
@@ -110,9 +111,15 @@ class PartsClient(ClaimsClient):
         with self._alone():
             return [content_in(reply) for reply in self.link.asked("fetch", [f"{place} {number}" for place, number in wanted])]
 
-    def confirmed_store(self) -> Tuple[str, str]:
-        """The address of a store that this designer has confirmed here, or nothing, and this machine's own way to it, if it has one."""
+    def confirmed_store(self, named: str = "") -> Tuple[str, str]:
+        """The address of a store that this designer has confirmed here, or nothing, and this machine's own way to it, if it has one. The one that
+        the vault names counts, too, where this designer has confirmed it at another vault: it is said once, and remembered."""
         with self._alone():
+            way = self.memory.confirmed_elsewhere(self.designer, named) if named and named != self.memory.store else None
+            if way is not None:
+                self.notice(f"This vault keeps its files at {shown(named)}, too, which you follow already.")
+                self.memory.store, self.memory.way = named, way
+                self.memory.save()
             return self.memory.store, self.memory.way
 
     def confirm_store(self, address: str, way: str = "") -> None:

@@ -18,7 +18,7 @@ from vault.protocol.address import Address, address_word
 from vault.protocol.connection import Connection, Link, Patience, quiet
 from vault.protocol.grammar import BROKEN, FULL, LIMIT, NAME, NO_MEMORY
 from vault.protocol.queue import Line
-from vault.protocol.replies import SENTENCES, Reply, claim_in, refusal_by
+from vault.protocol.replies import SENTENCES, Reply, claim_in, refusal_by, refusal_of
 from vault.protocol.standing import Holder
 from vault.protocol.words import checked
 
@@ -128,7 +128,7 @@ class Session:
             self.memory.remember(command, reply)
         self.memory.end()
         if not reply.ok:
-            raise self._limit(reply, command) or self._refusal(reply, command.place)
+            raise self._limit(reply, command) or self._refusal(reply, command.place, command.claim)
         return reply
 
     def _told(self, command: Command) -> Reply:
@@ -223,14 +223,14 @@ class Session:
             said = limit_in_words(self.link, command)
         return RefusedError(said, reply.code) if said else None
 
-    def _refusal(self, reply: Reply, place: str) -> RefusedError:
+    def _refusal(self, reply: Reply, place: str, claim: str = "") -> RefusedError:
         """A refusal at a place, with the owner of the claim in the way, as far as the server says."""
         named: Optional[List[Holder]] = None
         if reply.claims():
             with contextlib.suppress(VaultError):
                 named = self.line.of(reply.claims()[:1])
                 self._tell_older()
-        return refusal_by(reply, named[0], self.designer, place) if named else reply.refusal()
+        return refusal_by(reply, named[0], self.designer, place) if named else refusal_of(reply, claim)
 
 
 def memory_name(designer: str, servers: Sequence[Address]) -> str:

@@ -5,7 +5,7 @@ from dataclasses import dataclass
 from typing import Dict, List, Optional, Tuple
 
 from vault.errors import LostError, NotUnderstoodError, RefusedError
-from vault.protocol.grammar import CLAIM, CODE, CONTENT_BYTES, COVERED, NAME, SHOWN
+from vault.protocol.grammar import CLAIM, CODE, CONTENT_BYTES, COVERED, NAME, QUEUED, SHOWN
 from vault.protocol.standing import Holder, Standing
 
 # Replies each of whose words may name a claim; in others a designer or a place may be called c3.
@@ -72,6 +72,13 @@ def read_reply(line: bytes) -> Reply:
     if len(words) >= 2 and words[0] == "ERR" and CODE.fullmatch(words[1]):
         return Reply(False, tuple(words[1:]))
     raise LostError("what answered is no vault server")
+
+
+def refusal_of(reply: Reply, claim: str) -> RefusedError:
+    """A refusal of what a claim was named for: where it waits still, by its name."""
+    if reply.code != QUEUED or not claim:
+        return reply.refusal()
+    return RefusedError(f"{claim} waits still, so nothing was changed. `vault wait {claim}` tells when it is held.", reply.code)
 
 
 def refusal_by(reply: Reply, holder: Holder, designer: str, place: str) -> RefusedError:

@@ -38,7 +38,7 @@ class Setting:
         named = self.named()
         if not named:
             return None
-        confirmed, here = self.client.confirmed_store()
+        confirmed, here = self.client.confirmed_store(named)
         try:
             address = read_way(here) if here and confirmed == named else read_store_address(named)
         except MisusedError as error:
