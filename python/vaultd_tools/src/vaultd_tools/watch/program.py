@@ -27,6 +27,8 @@ STATUS = {SERVES: 0, BUSY: 0, ODD: 1, DEAF: 3, BROKEN: 4, DOWN: 5}
 DEVICE_FAULT = "device fault"
 # The line behind it, if a file can't be opened: its path in quotes.
 NOT_OPENED = re.compile(r'".*", opened: ')
+ADVICE = "Do as \"A broken vault\" in /usr/share/doc/vaultd/OPERATING.md says, and then remove that file"
+MOST_OF_A_MARK = 200
 # How often a deaf server's threads are looked at, a second apart, until it counts as one that hangs.
 LOOKS = 5
 
@@ -44,8 +46,15 @@ def set_mark(mark: Path, reason: str) -> str:
     if not mark.exists():
         mark.parent.mkdir(mode=0o755, parents=True, exist_ok=True)
         write_whole(mark, f"{time.strftime('%Y-%m-%dT%H:%M:%SZ', time.gmtime())} {reason}\n".encode("utf-8"), 0o644)
-    return (f"The vault is broken ({reason}). Its server isn't started again while {mark} is there: do as \"A broken vault\" in"
-            f" /usr/share/doc/vaultd/OPERATING.md says, and then remove that file")
+    return f"The vault is broken ({reason}). Its server isn't started again while {mark} is there. {ADVICE}"
+
+
+def why(mark: Path) -> str:
+    """What a mark says of when and why it was set."""
+    try:
+        return mark.read_text("utf-8", "replace")[:MOST_OF_A_MARK].strip() or "it says nothing"
+    except OSError as error:
+        return error.strerror or "it can't be read"
 
 
 def restart(unit: str) -> str:
@@ -94,6 +103,8 @@ def act(unit: str, status: str, marks: Path) -> str:
     mark = mark_of(marks, unit)
     if status == str(STATUS[BROKEN]):
         return set_mark(mark, "its server said ERR 82")
+    if status == str(STATUS[DOWN]) and mark.exists():
+        return f"{unit} isn't started: {mark} is there ({why(mark)}). {ADVICE}"
     return act_on_deaf(unit, mark) if status == str(STATUS[DEAF]) else ""
 
 
