@@ -21,7 +21,7 @@ import statistics
 import subprocess
 import time
 
-from measure import arguments, head, prepared, table
+from measure import arguments, head, prepared, sized, table
 
 HERE = os.path.dirname(os.path.abspath(__file__))
 # This many cycles stay below 1 MiB of journal, so that no snapshot comes between.
@@ -35,10 +35,10 @@ def made(folder, name, *words):
 
 
 def told(port, lines):
-    """Sends lines one by one, and expects each to be done."""
+    """Sends lines at once, so that few commits take them all, and expects each to be done."""
     with socket.create_connection(("127.0.0.1", port)) as link, link.makefile("rb") as back:
+        link.sendall("".join(line + "\n" for line in lines).encode())
         for line in lines:
-            link.sendall(line.encode() + b"\n")
             reply = back.readline().decode()
             if not reply.startswith("OK"):
                 raise SystemExit(f"{line} was told: {reply}")
@@ -78,7 +78,8 @@ def measured(program, folder, options, load, clients, before=(), most=MAX_CYCLES
     try:
         if server.stdout.readline().strip() != b"listening":
             raise SystemExit("the server didn't start")
-        told(options.port, ["hello z", "make /w", "make /w/a"] + [f"make /w/a/p{k}" for k in range(PARTS)] + [*before, "quit"])
+        if not getattr(options, "floor", None):  # what keeps nothing needs no places
+            told(options.port, ["hello z", "make /w", "make /w/a"] + [f"make /w/a/p{k}" for k in range(PARTS)] + [*before, "quit"])
         with open(f"{folder}/plan", "w", encoding="ascii") as file:
             file.write("\n\n".join(plan(client) for client in range(clients)) + "\n")
         cycles = clients if options.tiny else most
@@ -109,13 +110,14 @@ def main():
     load = made(folder, "load")
     made(folder, "slow_sync", "-shared", "-fPIC")
     made(folder, "floor")
+    rounds = sized(options.rounds, options)
     who = f"what keeps nothing ({options.floor})" if options.floor else f"{PARTS} workers"
-    head(program, f"{who}, syncs {options.slow:g} ms longer, medians of {options.rounds} runs")
+    head(program, f"{who}, syncs {options.slow:g} ms longer, medians of {rounds} runs")
 
     def rows():
         for clients in map(int, options.clients.split(",")):
             of_each = {each: [] for each in programs}
-            for turn in range(options.rounds):
+            for turn in range(rounds):
                 for each in programs[::-1] if turn % 2 else programs:
                     of_each[each].append(measured(each, folder, options, load, clients))
             runs, before = of_each[program], [run["rate"] for run in of_each[programs[-1]]]

@@ -12,7 +12,7 @@ import random
 import statistics
 
 from commits import made, measured
-from measure import arguments, head, prepared, table
+from measure import arguments, head, prepared, sized, table
 
 # This many cycles, and what is made before them, stay below 1 MiB of journal, so that no snapshot comes between.
 CYCLES = 900
@@ -37,10 +37,11 @@ def main():
     program, folder = prepared(options)
     load = made(folder, "load")
     made(folder, "slow_sync", "-shared", "-fPIC")
-    head(program, f"One client, syncs {options.slow:g} ms longer, medians of {options.rounds} runs by turns, with the least and the greatest")
+    rounds = sized(options.rounds, options)
+    head(program, f"One client, syncs {options.slow:g} ms longer, medians of {rounds} runs by turns, with the least and the greatest")
     counts = [int(count) for count in options.counts.split(",")]
     runs = {count: [] for count in counts}
-    for _ in range(options.rounds):
+    for _ in range(rounds):
         for count in counts:
             runs[count].append(measured(program, folder, options, load, 1, lines(count), CYCLES))
 

@@ -37,6 +37,8 @@ PROCESSES = 2
 WORKERS = 64
 MIN_RATE = 1000.0
 MAX_WAIT = 0.05
+# How long a client waits for the server, where the machine has much else to do.
+PATIENCE = 60
 # The most replies of a connection.
 LINES = 4096
 HONEST_LINES = 4000
@@ -61,7 +63,7 @@ class Waits:
 @contextmanager
 def linked(port: int) -> Iterator[socket.socket]:
     """A connection to the server, which sends each piece at once."""
-    with socket.create_connection(("127.0.0.1", port), 10) as link:
+    with socket.create_connection(("127.0.0.1", port), PATIENCE) as link:
         link.setsockopt(socket.IPPROTO_TCP, socket.TCP_NODELAY, 1)
         yield link
 

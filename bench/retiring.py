@@ -40,7 +40,7 @@ def compared(programs, folder, options, load):
     """Rows of cycles a second and processor time of all programs, run in turns, and how the last one differs from the first."""
     for clients in map(int, options.clients.split(",")):
         runs = [[] for _ in programs]
-        for _ in range(options.rounds):
+        for _ in range(sized(options.rounds, options)):
             for program, found in zip(programs, runs):
                 found.append(measured(program, folder, options, load, clients))
         rates = [sorted(run["rate"] for run in found) for found in runs]
@@ -79,11 +79,11 @@ def long_run(program, folder, options, load):
             if server.stdout.readline().strip() != b"listening":
                 raise SystemExit("the server didn't start")
             told(options.port, ["hello z", "make /w", "quit"])
-            done, behind, last = 0, 1000, sized(options.commands, options)
+            done, behind, last, cycles = 0, 1000, sized(options.commands, options), sized(BLOCK, options)
             while behind <= last:
                 if done < behind:
                     done += block(load, folder, options, (behind - done + 2) // 3, f"/w/before{behind}")["cycles"] * 3
-                figures = block(load, folder, options, BLOCK, f"/w/behind{behind}")
+                figures = block(load, folder, options, cycles, f"/w/behind{behind}")
                 yield (f"{done:,}", f"{figures['rate']:,.0f}", f"{figures['p50_us'] / 1000:.2f} and {figures['p99_us'] / 1000:.1f} ms",
                        megabytes(resident(server.pid)))
                 done, behind = done + figures["cycles"] * 3, behind * 10
@@ -104,11 +104,11 @@ def main():
     program, folder = prepared(options)
     load = made(folder, "load")
     programs = ([os.path.abspath(options.before)] if options.before else []) + [program]
-    head(program, f"{PARTS} workers, medians of {options.rounds} runs by turns, with the least and the greatest; processor time of the server, "
-                  "the mean")
+    head(program, f"{PARTS} workers, medians of {sized(options.rounds, options)} runs by turns, with the least and the greatest; processor time"
+                  " of the server, the mean")
     names = ("Cycles a second before", "Cycles a second", "Processor time a cycle before", "Processor time a cycle", "Differences")
     table(("Clients", *(names if options.before else names[1::2])), compared(programs, folder, options, load))
-    head(program, f"one server, {options.last} clients, blocks of {BLOCK} cycles")
+    head(program, f"one server, {options.last} clients, blocks of {sized(BLOCK, options)} cycles")
     table(("Commands before", "Cycles a second", "Median and 99th percentile of a cycle", "Resident memory"),
           long_run(program, folder, options, load))
 

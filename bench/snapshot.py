@@ -36,9 +36,9 @@ SAVE = 1035
 # The most records of a save in a frame. The frames leave room for 14 saves before a snapshot is begun.
 FRAME = 253
 LEFT = 14
-# How many saves after them make the next snapshot wanted, and the seconds of silence in which the server begins it.
+# How many saves after them make the next snapshot wanted, and the most that all connections of a run make.
 LATER = 1100
-PAUSE = 0.5
+SAVES = 3500
 
 
 def places():
@@ -107,11 +107,11 @@ class Share(threading.Thread):
 
 
 class Client(threading.Thread):
-    """One connection, which saves until it is told to stop. Each wait is kept with its beginning."""
+    """One connection, which saves until it is told to stop, and this often at most. Each wait is kept with its beginning."""
 
-    def __init__(self, port, number_of, stop):
+    def __init__(self, port, number_of, stop, most):
         super().__init__()
-        self.stop, self.waits = stop, []
+        self.stop, self.most, self.waits = stop, most, []
         self.line = f"save c{number_of} {path_of((number_of - 1) * ITEMS)} {'64' * CONTENT}\n".encode()
         self.socket = socket.create_connection(("127.0.0.1", port))
         self.socket.setsockopt(socket.IPPROTO_TCP, socket.TCP_NODELAY, 1)
@@ -126,7 +126,7 @@ class Client(threading.Thread):
 
     def run(self):
         # A few of all these saves make the journal long enough.
-        for _ in range(3500 // WORKERS):
+        for _ in range(self.most):
             if self.stop.is_set():
                 return
             begin = time.monotonic()
@@ -148,6 +148,23 @@ def written(path, limit=60):
     raise SystemExit("no snapshot was written")
 
 
+def written_again(path, limit=60):
+    """Waits until the second snapshot is in a file, of generation 3: the server begins it once nobody says anything."""
+    until = time.monotonic() + limit
+    while time.monotonic() < until:
+        with open(path, "rb") as file:
+            head_of = file.read(20)
+        if head_of[:1] == b"\x01" and head_of[12:] == number(3, 8):
+            return
+        time.sleep(0.01)
+    raise SystemExit("no second snapshot was written")
+
+
+def waits_in_words(waits):
+    """The longest of some waits and their 99th percentile; of a short snapshot no command may have been seen to wait."""
+    return f"{waits[-1] * 1000:.1f} and {waits[int(len(waits) * 0.99)] * 1000:.1f} ms" if waits else "none"
+
+
 @contextmanager
 def serving(program, files, options, before=()):
     """A server over these files, which listens. It has ended behind it."""
@@ -165,7 +182,7 @@ def one_run(program, files, content, options, connections):
     open(files[1], "wb").close()
     with serving(program, files, options) as server:
         stop = threading.Event()
-        clients = [Client(options.port, number_of, stop) for number_of in range(1, connections + 1)]
+        clients = [Client(options.port, number_of, stop, SAVES // connections) for number_of in range(1, connections + 1)]
         share = Share(server.pid, stop)
         for thread in [share, *clients]:
             thread.start()
@@ -215,10 +232,9 @@ def starts_by_strace(program, files, content, options, folder):
         file.write(content)
     open(files[1], "wb").close()
     with serving(program, files, options, ["strace", "-f", "-ttt", "-T", "-y", "-e", f"trace={calls}", "-o", told]) as tracer:
-        client = Client(options.port, 1, threading.Event())
-        for _ in range(LEFT + LATER):
-            client.say(client.line)
-        time.sleep(PAUSE)
+        client = Client(options.port, 1, threading.Event(), LEFT + LATER)
+        client.run()
+        written_again(files[0])
         client.socket.close()
         os.kill(traced_by(tracer.pid), signal.SIGTERM)
     return starts_in(told, [os.path.realpath(file) for file in files])
@@ -265,8 +281,7 @@ def main():
             done = [one_run(program, files, content, options, connections) for _ in range(runs)]
             waits = sorted(wait for _, each, _ in done for wait in each)
             resident, own = (max(each[way] for _, _, each in done) for way in (0, 1))
-            yield (str(connections), middle([took for took, _, _ in done]), f"{len(waits):,}",
-                   f"{waits[-1] * 1000:.1f} and {waits[int(len(waits) * 0.99)] * 1000:.1f} ms",
+            yield (str(connections), middle([took for took, _, _ in done]), f"{len(waits):,}", waits_in_words(waits),
                    f"{megabytes(resident)}, {resident * 1024 / WEIGHT:.2f}", f"{megabytes(own)}, {own * 1024 / WEIGHT:.2f}")
 
     table(("Connections", "Whole snapshot, least and median", "Commands that waited for it", "Longest wait and 99th percentile",

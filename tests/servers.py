@@ -76,14 +76,16 @@ def sockets_of(process: int) -> Iterator[socket.socket]:
         os.close(pidfd)
 
 
-def free_port() -> int:
-    """A port that nobody listens on: of those that tests/run gave to this module, or of a hundred that the process's number picks. They lie
-    below those that the kernel gives to clients: a bench takes the next ones, too, and one of them could be a client's."""
+def free_port(in_a_row: int = 1) -> int:
+    """A port that nobody listens on, as nobody does on the next ones, if more are asked for: of those that tests/run gave to this module, or of
+    a hundred that the process's number picks. They lie below those that the kernel gives to clients."""
     first, count = (int(word) for word in os.environ.get("VAULT_TEST_PORTS", f"{20_000 + os.getpid() % 100 * 100} 100").split())
     for _ in range(count):
-        with socket.socket() as listener, contextlib.suppress(OSError):
-            listener.bind(("127.0.0.1", first + next(TAKEN) % count))
-            return int(listener.getsockname()[1])
+        port = first + next(TAKEN) % count
+        with contextlib.ExitStack() as listeners, contextlib.suppress(OSError):
+            for each in range(port, port + in_a_row):
+                listeners.enter_context(socket.socket()).bind(("127.0.0.1", each))
+            return port
     raise AssertionError(f"no port is free from {first} on")
 
 

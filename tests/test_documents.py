@@ -11,7 +11,7 @@ import time
 import unittest
 from functools import cache
 from pathlib import Path
-from typing import Dict, Iterator, List, Set, Tuple
+from typing import Dict, Iterator, List, Sequence, Set, Tuple
 
 from servers import MEMORY, TOP, VAULTD, Server, free_port, program, scripts
 
@@ -37,6 +37,8 @@ NOT_RUN = {("docs/SIMULATION.md", "cd crates/vault_simulation"): "needs the prov
            ("contrib/replicated/README.md", "cd /usr/share/vaultd/replicated"): "needs two machines: tests/by_hand/replicated makes them"}
 # Programs of bench/ that no test runs.
 BENCH_NOT_RUN = {"bench/line.py": "proves the crates of a commit from nothing", "bench/gates.py": "runs two gates from nothing"}
+# How long such a program may take, and how many ports it takes at most, the next ones behind its own.
+BENCH_SECONDS, BENCH_PORTS = 400, 8
 # A name of code in a span: with an underscore, or of two words as types have it.
 NAME = re.compile(r"(?<![}\w])(?:[A-Za-z]\w*_\w+|[A-Z][a-z]+[A-Z]\w*)")
 # Names from elsewhere: of the language's library and tools, of the kernel, of a cluster's fences; and one of an example.
@@ -291,7 +293,7 @@ def section(page: str, heading: str) -> str:
 class Commands(unittest.TestCase):
     """The commands of the pages."""
 
-    deadline = 900          # a program of bench/ takes some seconds, on a busy machine more
+    deadline = 1800         # a program of bench/ takes some seconds, on a busy machine more
 
     def test_each_block_is_run(self) -> None:
         seen = set()
@@ -360,8 +362,16 @@ class Commands(unittest.TestCase):
             words = command.removeprefix("$ ").replace("/var/log/vaultd-gate.log", log.name).split()
             self.assertEqual(said([*program(words[0]), *words[1:]]), wanted)
 
+    def ended(self, call: Sequence[str]) -> "subprocess.CompletedProcess[str]":
+        """A program of bench/ that has ended. One that takes too long shows what it said by then."""
+        try:
+            return subprocess.run(call, cwd=TOP, stdin=subprocess.DEVNULL, stdout=subprocess.PIPE, stderr=subprocess.STDOUT, text=True,
+                                  timeout=BENCH_SECONDS, check=False)
+        except subprocess.TimeoutExpired as over:
+            raise AssertionError(f"it went on for {BENCH_SECONDS} seconds, and had said {over.stdout!r}") from over
+
     def test_programs_of_bench(self) -> None:
-        """Each line of the page, at a hundredth of its size."""
+        """Each line of the page, at a hundredth of its size. How long each took is said, too: on a slow disk that shows where time goes."""
         (_, block), = blocks_of(TOP / "bench" / "README.md")
         self.assertGreater(len(block.splitlines()), 15)
         for line in block.splitlines():
@@ -372,9 +382,11 @@ class Commands(unittest.TestCase):
                 meant = {"DISK": folder, "/dev/shm/FOLDER": folder, "PROGRAM": VAULTD, "CLONE": str(TOP)}
                 call = ["/usr/bin/python3", *(meant.get(word, word) for word in words), "--tiny", "--program", VAULTD]
                 if '"--port"' in text_of(TOP / words[0]):
-                    call += ["--port", str(free_port())]
-                done = subprocess.run(call, cwd=TOP, capture_output=True, text=True, timeout=120, check=False)
-                self.assertEqual(done.returncode, 0, done.stdout + done.stderr)
+                    call += ["--port", str(free_port(BENCH_PORTS))]
+                began = time.monotonic()
+                done = self.ended(call)
+                print(f"{words[0]} took {time.monotonic() - began:.1f} s", file=sys.stderr)
+                self.assertEqual(done.returncode, 0, done.stdout)
                 self.assertIn("|---|", done.stdout)
 
 
