@@ -14,12 +14,14 @@ from typing import Any, Dict, List, Optional, Tuple
 from fusepy import FUSE, FuseOSError, Operations  # type: ignore[import]
 
 STEP = 2_000_000_000
+HIDDEN = ".fuse_hidden"
 STATS = ("st_gid", "st_ino", "st_mode", "st_nlink", "st_size", "st_uid")
 ROOM = ("f_bavail", "f_bfree", "f_blocks", "f_bsize", "f_favail", "f_ffree", "f_files", "f_flag", "f_frsize", "f_namemax")
 
 
 class TwoSeconds(Operations):  # type: ignore[misc]
-    """Hands each call on to a folder, and tells times in steps of two seconds. A file that is open stays the one that was opened."""
+    """Hands each call on to a folder, and tells times in steps of two seconds. A file that is open stays the one that was opened: once it is
+    gone libfuse keeps it by another name, which is shown to nobody."""
 
     use_ns = True
     flag_nullpath_ok = 1
@@ -91,7 +93,7 @@ class TwoSeconds(Operations):  # type: ignore[misc]
 
     def readdir(self, path: str, fh: int) -> List[str]:
         """The names in a folder."""
-        return [".", "..", *os.listdir(path)]
+        return [".", "..", *(name for name in os.listdir(path) if not name.startswith(HIDDEN))]
 
     def rename(self, old: str, new: str) -> None:
         """Renames a file or a folder."""
@@ -140,7 +142,7 @@ class TwoSeconds(Operations):  # type: ignore[misc]
 def main() -> None:
     """Mounts it, and serves it until it is unmounted."""
     folder, where = map(Path, sys.argv[1:])
-    FUSE(TwoSeconds(str(folder)), str(where), foreground=True, nothreads=True, hard_remove=True, use_ino=True, attr_timeout=0, entry_timeout=0,
+    FUSE(TwoSeconds(str(folder)), str(where), foreground=True, nothreads=True, use_ino=True, attr_timeout=0, entry_timeout=0,
          ac_attr_timeout=0, big_writes=True, default_permissions=True, fsname="two_seconds")
 
 
