@@ -282,6 +282,22 @@ class ManyDrafts(WithFiles):
         self.assertIn("It isn't one change: it took 2 check-outs.", said["sentence"])
         self.assertEqual((self.got("/motor"), self.as_json("mine")["claims"]), (wanted, []))
 
+    def test_one_waits(self) -> None:
+        """Where the next check-out waits for somebody, what was checked in before is told, and said again it goes on."""
+        self.lay({f"a {number}/Teil {each}": b"%d %d" % (number, each) for number in range(2) for each in range(40)})
+        wanted, ben = self.files(self.cad), self.client("ben")
+        self.vault("hello", f"anna@127.0.0.1:{self.cutter.port}")
+        self.vault("store", "confirm", self.address())
+        taken: List[str] = []
+        self.cutter.meanwhile = lambda: taken.append(ben.checkout(["w:/motor"]).claim)
+        self.cutter.after.append(b"checkin c")
+        refused = self.imported("/motor", "--yes", "--in-parts", status=1)
+        self.assertRegex(refused["sentence"], r"^c[0-9]+ is checked in: 6[0-9] new versions\. c[0-9]+ is queued behind c[0-9]+, which ben holds:"
+                                              r" w:/motor\. So a part is left: say it again once that is held, as `vault wait c[0-9]+` tells\.$")
+        ben.abandon(taken[0])
+        self.assertEqual(refused["versions"] + self.imported("/motor", "--yes", "--in-parts")["versions"], 80)
+        self.assertEqual(self.got("/motor"), wanted)
+
 
 class Adding(WithFiles):
     """`vault add` of folders in a working folder."""

@@ -1,20 +1,24 @@
 """Sentences that say what a designer does next: each has its row."""
 
 import contextlib
+import json
 import os
 import pty
 import re
 import subprocess
+import tempfile
 import unittest
 from pathlib import Path
-from typing import Dict, List
+from typing import Dict, List, Sequence
 from unittest import mock
 
-from servers import program
+from servers import MEMORY, Server, program
 from stores import NAME, PART, WithStore
+from test_check import file_of
 
 from vault import RefusedError
 from vault.cli.counting import MOST, SHOWN, some_of
+from vault.protocol.replies import SENTENCES
 
 
 class Limits(WithStore):
@@ -45,6 +49,50 @@ class Limits(WithStore):
         self.assertIn("The vault has 256 check-outs and holds, and has at most that many at once. `vault who /`", str(refused.exception))
 
 
+class Full(unittest.TestCase):
+    """A vault that has reached a limit for good."""
+
+    def refused(self, snapshot: bytes, *steps: Sequence[str]) -> str:
+        """With what the last of some commands is refused in a vault with a snapshot, in which anna has /e checked out."""
+        with tempfile.TemporaryDirectory(prefix="vault-test-", dir=MEMORY) as folder:
+            files = (os.path.join(folder, "a"), os.path.join(folder, "b"))
+            Path(files[0]).write_bytes(file_of(1, snapshot))
+            Path(files[1]).write_bytes(b"")
+            server = Server("--workers", "4", folder=folder, files=files)
+            try:
+                server.start()
+                (Path(folder) / "x").write_bytes(b"x" * 1017)
+                environment = {**os.environ, "XDG_STATE_HOME": folder, "XDG_CACHE_HOME": folder, "VAULT_AS": f"anna@127.0.0.1:{server.port}"}
+                for words in steps:
+                    done = subprocess.run([*program("vault"), "--json", *words], cwd=folder, env=environment, capture_output=True, timeout=60,
+                                          check=False)
+                    self.assertEqual(done.returncode, int(words == steps[-1]), (words, done.stdout, done.stderr))
+                return str(json.loads(done.stdout)["sentence"])
+            finally:
+                server.close()
+
+    def test_limits(self) -> None:
+        """Which one it is, how full, what helps, and who can."""
+        claim = bytes.fromhex("0001 00000001 04 616e6e61 00 01 01 00000001 00")
+        numbered, last = (1).to_bytes(4, "big"), b"\xff" * 4
+        head = bytes.fromhex("00000004 00000000 01 65 00 00000001 01 62 00 00000002 01 63 01")
+        put, another = ("put", "/e/b/c", "x"), "Ask whoever runs it for another vault; nothing was changed."
+        self.assertEqual(self.refused(numbered + head + b"\xff\xff" + bytes(2 * 65535) + claim, put, ("checkin", "c1")),
+                         "/e/b/c has 65,535 versions, and a part has at most that many, for good. Make another part of it, and put its file there;"
+                         " `vault abandon c1` gives this check-out up, with its drafts. Nothing was changed.")
+        versions = (16256).to_bytes(2, "big") + ((1024).to_bytes(2, "big") + bytes(1024)) * 16256
+        self.assertEqual(self.refused(numbered + head + versions + claim, put),
+                         "With this draft the contents of all versions and drafts would have more than 16,777,216 bytes, the most that a vault"
+                         f" has. `vault abandon` of a check-out gives back what its drafts take; versions stay for good. {another}")
+        self.assertEqual(self.refused(last + head + bytes(2) + claim, ("checkout", "r:/e")),
+                         f"The vault has given check-outs all numbers up to 4,294,967,295, for good. {another}")
+        places = [(0, b"p%d" % number) for number in range(64)]
+        places += [(above, b"a%d" % number) for number in range(63) for above in range(1, 65)][:4095 - 64]
+        spelled = b"".join(above.to_bytes(4, "big") + bytes([len(name)]) + name + b"\0" for above, name in places)
+        self.assertEqual(self.refused(bytes(4) + (4096).to_bytes(4, "big") + spelled + bytes(2), ("make", "/p63/more")),
+                         f"The vault has 4,096 places with the library, and has at most that many, for good. {another}")
+
+
 class Words(WithStore):
     """What is meant, or what was misunderstood."""
 
@@ -61,6 +109,36 @@ class Words(WithStore):
                                  ["xyzzy", "`xyzzy` is no command. `vault --help` shows the words."]]
         for word, sentence in rows:
             self.assertIn(sentence, self.as_json(word, status=2)["sentence"])
+
+    def test_nothing_was_changed(self) -> None:
+        """Behind what was done no refusal says that nothing was changed."""
+        for sentence in SENTENCES.values():
+            refused = RefusedError(sentence)
+            refused.put_behind("c3 is checked in: 1 new version.")
+            self.assertNotIn("othing was changed", str(refused))
+            self.assertRegex(str(refused), r"[a-z`}]\.$")
+        self.as_program()
+        self.vault("make", "/engine/head")
+        work = self.root / "work"
+        self.vault("get", "/engine", "--to", str(work))
+        self.client("ben").checkout(["w:/engine/head"])
+        for name in ("block/Bolzen", "head/Ventil"):
+            (work / name).write_bytes(b"new")
+        said = self.as_json("add", str(work / "block" / "Bolzen"), str(work / "head" / "Ventil"), status=1)["sentence"]
+        self.assertEqual(said, f"{work}/block/Bolzen is /engine/block/bolzen. The place above it is in c2, which ben holds: w:/engine/head. Wait"
+                               " until it is gone, or ask ben.")
+
+    def test_others_see(self) -> None:
+        """A put of one file says what others will see: the name that the part keeps, or the one that it is given."""
+        self.put_version()
+        self.as_program()
+        self.vault("checkout", f"w:{PART}")
+        (self.root / "entwurf 7.tmp").write_bytes(b"bore 82")
+        said = self.vault("put", PART, str(self.root / "entwurf 7.tmp")).decode()
+        self.assertEqual(said, f"7 bytes are a draft of {PART} in c3. `vault checkin c3` makes it a version, which others get as {NAME}: the part"
+                               " keeps its name, and `--name` gives it another.\n")
+        said = self.vault("put", PART, str(self.root / "entwurf 7.tmp"), "--name", "Kolben 82").decode()
+        self.assertTrue(said.endswith("makes it a version, which others get as Kolben 82.\n"), said)
 
     def test_get(self) -> None:
         """An assembly without a folder comes into one of its name in the current folder, and the folder's path brings it up to date."""

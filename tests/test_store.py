@@ -3,6 +3,7 @@
 import hashlib
 import os
 import pty
+import shutil
 import subprocess
 import sys
 import tempfile
@@ -251,6 +252,59 @@ class NoStore(WithStore):
         self.client("ben").checkout(["w:" + STORE_PLACE])
         with self.assertRaises(RefusedError):
             self.parts.setting.set(self.address())
+
+
+@unittest.skipUnless(os.getuid() == 0, "needs root, for designers with accounts of their own")
+class OfAGroup(WithStore):
+    """Designers who aren't root share a store that root made for their group, whatever their own files' rights are."""
+
+    GROUP, ANNA, BEN = 20_000, 20_001, 20_002
+
+    def setUp(self) -> None:
+        super().setUp()
+        for package in PACKAGES:
+            shutil.copytree(package / "src", self.root / "lib", dirs_exist_ok=True, ignore=shutil.ignore_patterns("__pycache__"))
+        self.root.chmod(0o755)
+        self.office = self.root / "office"
+        self.office.mkdir()
+        os.chown(self.office, 0, self.GROUP)
+        self.office.chmod(0o2770)
+
+    def of(self, user: int, *words: str) -> str:
+        """What the program answers a designer's account."""
+        home = self.root / str(user)
+        if not home.is_dir():
+            home.mkdir()
+            os.chown(home, user, user)
+        code = f"import sys; sys.path.insert(0, {str(self.root / 'lib')!r}); from vault.cli.program import main; sys.exit(main())"
+        done = subprocess.run([sys.executable, "-c", code, *words], user=user, group=user, extra_groups=[self.GROUP], umask=0o022, cwd=home,
+                              env={**self.environment(), "XDG_STATE_HOME": str(home), "XDG_CACHE_HOME": str(home)}, capture_output=True,
+                              text=True, check=False, timeout=60)
+        self.assertEqual(done.returncode, 0, (words, done.stdout, done.stderr))
+        return done.stdout
+
+    def test_two_designers(self) -> None:
+        """Both put files whose bytes lie in one folder of the store, and the same bytes, and each gets the other's."""
+        address, names = f"file://{self.office}", {self.ANNA: "anna", self.BEN: "ben"}
+        for user, name in names.items():
+            self.of(user, "hello", f"{name}@127.0.0.1:{self.server.port}")
+        self.assertIn("keeps its files at", self.of(self.ANNA, "store", "set", address))
+        self.of(self.BEN, "store", "confirm", address)
+        alike = (content for content in map(b"%d".__mod__, range(100_000)) if hashlib.sha256(content).hexdigest()[:2] == "ab")
+        contents = [next(alike), next(alike)]
+        for user, content in ((self.ANNA, contents[0]), (self.BEN, contents[1]), (self.BEN, contents[0]), (self.ANNA, contents[1])):
+            file = self.root / str(user) / "file"
+            file.write_bytes(content)
+            file.chmod(0o644)
+            claim = self.of(user, "checkout", f"w:{PART}").split()[0]
+            self.of(user, "put", PART, str(file))
+            self.of(user, "checkin", claim)
+        for user in names:
+            self.of(user, "get", PART, "1", "--to", "one")
+            self.of(user, "get", PART, "2", "--to", "two")
+            self.assertEqual([(self.root / str(user) / name).read_bytes() for name in ("one", "two")], contents)
+        folders = [path for path in (self.office / "sha256").rglob("*") if path.is_dir()]
+        self.assertEqual({(path.stat().st_mode & 0o7777, path.stat().st_gid) for path in folders}, {(0o2770, self.GROUP)})
 
 
 class SetAgain(WithStore):

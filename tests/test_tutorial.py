@@ -15,6 +15,8 @@ from servers import TOP, VAULTD, free_port, lay_programs
 
 SHOWN_PORTS = ("7070", "7071")
 SHOWN_STORE = "/srv/vault-store"
+# Who runs the test has no such group, and is each designer; tests/test_store.py has designers of a group.
+OF_A_GROUP = {" -g designers -m 2770 ": " -m 700 "}
 PROMPT = re.compile(r"(?P<who>anna|ben|)\$ (?P<line>.*)")
 DONE = "line-is-done"
 # What the shell says of a job that it found killed before it was told to wait for it.
@@ -92,7 +94,7 @@ class Pages(unittest.TestCase):
         self.programs.mkdir()
         lay_programs(self.programs)
         (self.programs / "vaultd").symlink_to(VAULTD)
-        self.meant = {**{shown: str(free_port()) for shown in SHOWN_PORTS}, SHOWN_STORE: str(self.folder / "vault-store")}
+        self.meant = {**{shown: str(free_port()) for shown in SHOWN_PORTS}, SHOWN_STORE: str(self.folder / "vault-store"), **OF_A_GROUP}
         self.shells: Dict[str, Shell] = {}
         for who in ("", "anna", "ben"):
             self.shells[who] = Shell(self.folder / (who or "server"), self.programs)

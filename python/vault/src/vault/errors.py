@@ -1,6 +1,10 @@
 """What the client raises: each error is a sentence with what a person does next."""
 
+import re
 from typing import Any, Dict, Optional
+
+# What a refusal says of itself, and isn't so where something was done before.
+UNCHANGED = re.compile(r"(?:;|, so) nothing was changed(?=\.)| Nothing was changed\.")
 
 
 class VaultError(Exception):
@@ -14,8 +18,8 @@ class VaultError(Exception):
         self.fields: Dict[str, Any] = {}
 
     def put_behind(self, done: str) -> None:
-        """Puts a sentence before it that says what was done before."""
-        self.args = (f"{done} {self}",)
+        """Puts a sentence before it that says what was done before; then it says no more that nothing was changed."""
+        self.args = (f"{done} {UNCHANGED.sub('', str(self))}",)
 
 
 class MisusedError(VaultError):

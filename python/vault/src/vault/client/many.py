@@ -2,7 +2,7 @@
 
 from typing import Callable, Dict, Iterator, List, NamedTuple, Optional, Sequence, Tuple, TypeVar
 
-from vault.client.memory import Claim, Draft
+from vault.client.memory import Claim, Command, Draft
 from vault.client.parts import PartsClient
 from vault.client.places import PlacesClient
 from vault.errors import LostError, NotKnownError, RefusedError, UnreachableError
@@ -108,7 +108,16 @@ class ManyClient(PlacesClient, PartsClient):
             if number:
                 self.progress(f"{number * AT_ONCE:,} of {len(lines):,} so far")
             refused += self._batch_told(batch, not_done)
-        return {lines[line]: self._refusal(reply, lines[line]) for line, reply in refused}
+        known: Dict[str, Optional[RefusedError]] = {}
+        return {lines[line]: self._limit_of(line, lines[line], reply, known) or self._refusal(reply, lines[line]) for line, reply in refused}
+
+    def _limit_of(self, line: str, place: str, reply: Reply, known: Dict[str, Optional[RefusedError]]) -> Optional[RefusedError]:
+        """The same as `_limit`, asked once for the places beneath one, and for the drafts of a check-out."""
+        kind, claim = ("put", line.split()[1]) if line.startswith("save ") else (line.split()[0], "")
+        about = claim or place.rpartition("/")[0]
+        if about not in known:
+            known[about] = self._limit(reply, Command(kind, line, claim, place))
+        return known[about]
 
     def _batch_told(self, batch: Sequence[str], not_done: Callable[[List[str]], List[str]]) -> List[Tuple[str, Reply]]:
         """The same of some lines that are sent at once: those that were refused, with their replies."""

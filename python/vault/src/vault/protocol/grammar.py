@@ -10,11 +10,14 @@ LINE_BYTES = 4096
 GREATEST = 2 ** 32 - 1
 ITEMS = 8
 NAMES = 7
-# What a vault has at most: places right beneath one, places with the library, claims at once, and drafts in a check-out.
+# What a vault has at most: places right beneath one, places with the library, claims at once, drafts in a check-out, versions of a part, and bytes of
+# all contents.
 BENEATH = 64
 PLACES = 4096
 CLAIMS = 256
 DRAFTS = 64
+VERSIONS = 65535
+WEIGHT = 16 << 20
 
 NAME = re.compile(r"[a-z0-9_-]{1,32}")
 PLACE = re.compile(r"/|(?:/%s){1,%d}" % (NAME.pattern, NAMES))

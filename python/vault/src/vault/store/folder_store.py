@@ -134,7 +134,7 @@ class FolderStore:
         try:
             if aside.parent.is_symlink() or not os.path.lexists(aside):
                 return False
-            path.parent.mkdir(parents=True, exist_ok=True)
+            self._make_above(path)
             os.replace(aside, path)
             with contextlib.suppress(PermissionError):
                 os.utime(path)
@@ -244,11 +244,21 @@ class FolderStore:
         folder = self.folder / name
         if folder.is_symlink():
             raise StoreFaultError(f"The store {self.address} has a link in the place of its folder {name}, so nothing was done. Ask whoever runs it.")
+        self._make_folder(folder)
+        return folder
+
+    def _make_above(self, path: Path) -> None:
+        """Makes the folders in which bytes have their place, where they are missing."""
+        for folder in (path.parent.parent.parent, path.parent.parent, path.parent):
+            self._make_folder(folder)
+
+    def _make_folder(self, folder: Path) -> None:
+        """Makes a folder where it is missing, with the rights of the store's folder, whatever this designer's own files have: who may write there
+        may here."""
         if not folder.is_dir():
             folder.mkdir(exist_ok=True)
             with contextlib.suppress(PermissionError):
                 folder.chmod(stat.S_IMODE(self.folder.stat().st_mode))
-        return folder
 
     def _is_there(self, kept: Kept) -> bool:
         """Whether bytes are there. If so, they are read through and made young, so that no sweep takes them. If they are in another
@@ -271,7 +281,7 @@ class FolderStore:
     def _give_name(self, file: IO[bytes], kept: Kept) -> None:
         """Gives bytes that are on disk the name by which they are found, and puts that on disk, too."""
         path = self._path(kept.sha256)
-        path.parent.mkdir(parents=True, exist_ok=True)
+        self._make_above(path)
         file.close()
         set_writable(Path(file.name), False)
         replace(Path(file.name), path)

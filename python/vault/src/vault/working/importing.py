@@ -122,7 +122,8 @@ class Importing(Putting, Adding):
             left = {name for name, _ in done.left}
             if done.versions == before or not [name for name in self.waiting() if name not in left]:
                 return done
-            claim = self._next(asked)
+            with done.told_with_errors():
+                claim = self._next(asked)
             done.named.clear()
 
     def _next(self, asked: List[str]) -> str:

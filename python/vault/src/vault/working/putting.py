@@ -57,7 +57,8 @@ class Putting(PuttingMany):
                 done.left.append((str(self.folder.path), f"has more that is changed: {asked.sentence(self.client.designer)} Wait for it, and say it"
                                                          " again"))
                 return done
-            next_done = self._checkin_once(note, asked.claim, in_parts)
+            with done.told_with_errors():
+                next_done = self._checkin_once(note, asked.claim, in_parts)
             next_done.files, next_done.claims = done.files + next_done.files, done.claims + next_done.claims
             next_done.versions += done.versions
             done = next_done

@@ -1,8 +1,10 @@
 """What is told of a working folder: what was done with its files, and why some were left."""
 
+import contextlib
 from dataclasses import dataclass, field
-from typing import Dict, Iterable, List, Optional, Sequence, Tuple
+from typing import Dict, Iterable, Iterator, List, Optional, Sequence, Tuple
 
+from vault.errors import VaultError
 from vault.files.text import quoted, shown
 from vault.working.before import Before
 from vault.working.folder import Folder
@@ -34,6 +36,17 @@ class Done:
     saved_aside: List[Before] = field(default_factory=list)
     named: Dict[str, str] = field(default_factory=dict)
     more: bool = False
+
+    @contextlib.contextmanager
+    def told_with_errors(self) -> Iterator[None]:
+        """Has an error say first what was checked in before."""
+        try:
+            yield
+        except VaultError as error:
+            error.put_behind(self.checked_in())
+            error.fields["claims"] = self.claims + error.fields.get("claims", [])
+            error.fields["versions"] = self.versions + error.fields.get("versions", 0)
+            raise
 
     def checked_in(self) -> str:
         """What was checked in, in words."""
