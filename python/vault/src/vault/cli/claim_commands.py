@@ -6,8 +6,7 @@ import threading
 import time
 from typing import Callable, List
 
-from vault.cli.counting import counted, first_rows
-from vault.cli.output import Output, Told
+from vault.cli.output import Output, Told, counted
 from vault.cli.words import CheckinWords, ClaimWords, ExtendWords, GiveWords, ItemsWords, MineWords, NoteWords, PlaceWords, WaitWords
 from vault.client import Client
 from vault.client.memory import Claim
@@ -195,6 +194,7 @@ def mine(client: Client, words: MineWords, _output: Output) -> Told:
     found = client.mine(words.claims)
     fields = [{**standing.fields(), "items": claim.items, "drafts": drafts_of(standing, claim), "kept": sorted(claim.drafts),
                "given": claim.given or None} for standing, claim in found]
+    from vault.cli.counting import first_rows
     shown, left = first_rows(found, words.all)
     lines = [mine_line(standing, claim, client.designer, words.all) for standing, claim in shown]
     lines += [f"{counted(left, 'more check-out')}: `--all` lists them."] if left else []
@@ -227,6 +227,7 @@ def who(client: Client, words: PlaceWords, output: Output) -> Told:
     """Shows who holds what at a place, above it or beneath it, and who waits for what."""
     found = client.who(words.place)
     fields = [{**holder.fields(), "since": moment(since)} for holder, since in found]
+    from vault.cli.counting import first_rows
     shown, left = first_rows(found, words.all)
     more = [f"{counted(left, 'more claim')} {'comes' if left == 1 else 'come'} behind these: `--all` lists them."] if left else []
     if found and output.tables:

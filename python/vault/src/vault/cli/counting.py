@@ -29,8 +29,3 @@ def first_rows(rows: Sequence[T], every: bool) -> Tuple[Sequence[T], int]:
     """The first of some rows, or all where so few are there or all are wanted; and how many are left out."""
     shown = rows if every or len(rows) <= MOST else rows[:MOST]
     return shown, len(rows) - len(shown)
-
-
-def counted(number: int, one: str, many: str = "") -> str:
-    """A number of things in words."""
-    return f"{number:,} {one if number == 1 else many or one + 's'}"

@@ -21,7 +21,6 @@ from vault.working.found import State
 from vault.working.modes import settle_folders
 from vault.working.opening import folder_for
 from vault.working.renamed import Renamed
-from vault.working.scope import scope_of
 from vault.working.told import Done
 
 
@@ -92,6 +91,7 @@ def checkin_folder(client: Client, words: CheckinWords, output: Output) -> Told:
 
 def status(client: Client, words: StatusWords, output: Output) -> Told:
     """Shows how the files of a working folder stand, or of a part of it."""
+    from vault.working.scope import scope_of
     folder = find_folder(Path(words.folder))
     with folder.locked():
         scope = scope_of(folder, words.folder)

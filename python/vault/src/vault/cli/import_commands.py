@@ -4,8 +4,8 @@ import os
 from pathlib import Path
 from typing import Any, Dict, List, Sequence, Tuple
 
-from vault.cli.counting import counted, some_of
-from vault.cli.output import Output, Told
+from vault.cli.counting import some_of
+from vault.cli.output import Output, Told, counted
 from vault.cli.words import ImportWords
 from vault.client import Client
 from vault.errors import MisusedError

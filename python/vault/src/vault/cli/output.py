@@ -120,6 +120,11 @@ class Output:
             show("vault: " + str(error), sys.stderr, True)
 
 
+def counted(number: int, one: str, many: str = "") -> str:
+    """A number of things in words."""
+    return f"{number:,} {one if number == 1 else many or one + 's'}"
+
+
 def in_colours(stream: TextIO) -> bool:
     """Whether somebody looks at a stream, on a terminal that has colours, and wants them."""
     return stream.isatty() and not os.environ.get("NO_COLOR") and os.environ.get("TERM", "dumb" if os.name == "posix" else "") != "dumb"

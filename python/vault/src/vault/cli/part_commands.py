@@ -8,9 +8,9 @@ import tempfile
 from pathlib import Path
 from typing import List
 
-from vault.cli.counting import first_rows
 from vault.cli.folder_commands import get_folder, put_folder
 from vault.cli.output import Output, Told
+from vault.cli.vaults import in_folder
 from vault.cli.words import DraftsWords, DraftWords, GetWords, PlaceWords, PutWords, WriteWords
 from vault.client import Client
 from vault.errors import MisusedError, RefusedError, VaultError
@@ -18,8 +18,6 @@ from vault.files.names import choose_name, usable, why_not
 from vault.files.text import shown
 from vault.store.naming import name_place, names_of
 from vault.store.parts import Parts, Put, Version, fields_of, parts_of_program
-from vault.working import Working
-from vault.working.folder import find_folder
 
 SHOWN_BYTES = 1 << 20
 
@@ -49,12 +47,15 @@ def others_see(words: PutWords, done: Put) -> str:
 def rename_here(client: Client, place: str, file: Path, done: Put) -> None:
     """Has a working folder know a part's file by its new name, if the one that was put stands there under the name that the part has now, and the
     one that it had is missing."""
-    if file.name != done.name:
+    path = Path(os.path.abspath(file))
+    if path.name != done.name or in_folder(path.parent) is None:
         return
+    from vault.working.folder import find_folder
+    from vault.working.putting import Putting
     with contextlib.suppress(VaultError, OSError):
-        folder = find_folder(Path(os.path.abspath(file)).parent)
+        folder = find_folder(path.parent)
         with folder.locked():
-            Working(Parts(client), folder).renamed(place, Path(os.path.abspath(file)).relative_to(folder.path).as_posix(), done.sha256, done.claim)
+            Putting(Parts(client), folder).renamed(place, path.relative_to(folder.path).as_posix(), done.sha256, done.claim)
 
 
 def get(client: Client, words: GetWords, output: Output) -> Told:
@@ -103,6 +104,7 @@ def history(client: Client, words: PlaceWords, output: Output) -> Told:
     """Lists the versions of a part, of many the latest."""
     versions = list(parts_of_program(client, output.meter).history(words.place))
     found = [fields_of(version) for version in versions]
+    from vault.cli.counting import first_rows
     latest, left = first_rows(versions[::-1], words.all)
     rows = [history_row(version) for version in reversed(latest)]
     earlier = f"{left:,} earlier versions are there: `--all` lists them." if left else ""

@@ -3,8 +3,7 @@
 from collections import Counter
 from typing import Sequence
 
-from vault.cli.counting import MOST, counted
-from vault.cli.output import Output, Told
+from vault.cli.output import Output, Told, counted
 from vault.cli.session import last_designer, remember_designer
 from vault.cli.vaults import remember_vault, vaults_in_words
 from vault.cli.words import HelloWords, MakeWords, NoWords, PlaceWords
@@ -60,6 +59,7 @@ def tree(client: Client, words: PlaceWords, _output: Output) -> Told:
 
 def shown_depth(places: Sequence[str]) -> int:
     """How many names the deepest places have that are shown: of many places as many as are few, and at least the uppermost."""
+    from vault.cli.counting import MOST
     depths = Counter(place.count("/") for place in places)
     found = min(depths, default=NAMES)
     while found < NAMES and sum(depths[each] for each in range(found + 2)) <= MOST:
