@@ -120,6 +120,13 @@ class Packages(unittest.TestCase):
         self.assertEqual(wanted - set(names), set())
         self.assertEqual(len(names), len(set(held) - {path for path in held if path.endswith("/")}))
 
+    def test_completion(self) -> None:
+        """Each shell finds the client's completion where it looks for it, and what it runs on is recommended."""
+        held = self.said("dpkg-deb", "-c", str(self.packages[0]))
+        for path in ("bash-completion/completions/vault", "zsh/vendor-completions/_vault", "fish/vendor_completions.d/vault.fish"):
+            self.assertIn(f"./usr/share/{path}\n", held)
+        self.assertIn("python3-argcomplete", self.said("dpkg-deb", "--field", str(self.packages[0]), "Recommends"))
+
     def test_first_test(self) -> None:
         """What the page's first commands run beyond the least Debian comes with the package: each program by its package."""
         first, recommends = block_of(BLOCKS["start.sh"]), self.said("dpkg-deb", "--field", str(self.packages[1]), "Recommends").split(", ")

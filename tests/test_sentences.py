@@ -179,6 +179,8 @@ class Kinds(unittest.TestCase):
         """Of a kind that has many lines some are shown; one of another kind always is, wherever it stands."""
         many = [(f"f{number}:", f"version {number} is in the vault; `vault get /e/p{number}` fetches it.") for number in range(MOST + 1)]
         lines = [*many[:20], ("odd:", "can't be read."), *many[20:]]
+        other = [*many, *((name, "isn't here, and version 3 wasn't got.") for name, _ in many)]
+        self.assertEqual(len(some_of(other, False)), 2 * (SHOWN + 1))
         said = some_of(lines, False)
         self.assertEqual(len(said), SHOWN + 2)
         self.assertEqual(said[-2:], [f"So it is with {MOST + 1 - SHOWN} more: `--all` names them.", "odd: can't be read."])
@@ -310,6 +312,7 @@ class Renames(WithStore):
         said = (f"block/Kolben 82 (neu) is block/{NAME} by another name, and `vault add` would make a second part of it. In a check-out of it"
                 f" (`vault checkout w:{PART}`) {put}.")
         self.assertEqual(self.vault("status", str(self.work)).decode().splitlines(), [f"block/{NAME}: missing here.", said])
+        self.assertEqual(self.as_json("status", str(self.work))["renamed"], {"block/Kolben 82 (neu)": f"block/{NAME}"})
         refused = self.as_json("add", str(self.work / "block" / "Kolben 82 (neu)"), status=2)
         self.assertEqual(refused["sentence"], said)
         self.vault("checkout", f"w:{PART}")

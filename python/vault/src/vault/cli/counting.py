@@ -6,7 +6,7 @@ from typing import Dict, List, Sequence, Tuple, TypeVar
 # How many lines of a kind are shown, and how many where there are more of it.
 MOST, SHOWN = 40, 10
 # What a line has of its own, and its kind hasn't: commands, names in quotes, places, claims and numbers.
-OWN = re.compile(r"`[^`]*`|'[^']*'|/[^ ,:;]*|\b[ch]?[0-9][0-9,]*\b")
+OWN = re.compile(r"`[^`]*`|(?<!\w)'[^']*'|/[^ ,:;]*|\b[ch]?[0-9][0-9,]*\b")
 T = TypeVar("T")
 
 

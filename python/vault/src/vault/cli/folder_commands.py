@@ -109,7 +109,8 @@ def status(client: Client, words: StatusWords, output: Output) -> Told:
         told = some_of(lines, words.all) + [saved_aside_in_words(folder, words.folder, each) for each in saved_aside]
     fields = {"place": scope.place or folder.place, "files": [vars(state) for state in files], "others": others,
               "saved_aside": [each.fields() for each in saved_aside],
-              "new": [{"place": place, "version": number} for place, number in new.items()]}
+              "new": [{"place": place, "version": number} for place, number in new.items()],
+              "renamed": {name: before for name in others if (before := renamed.renamed(name))}}
     return "\n".join(told or [f"Nothing is changed in {words.folder}, and nothing is newer in the vault."]), fields
 
 
