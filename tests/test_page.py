@@ -4,6 +4,7 @@ import asyncio
 import contextlib
 import csv
 import gzip
+import html
 import io
 import json
 import re
@@ -29,7 +30,7 @@ from vaultd_tools.page.render import address, in_bytes
 from vaultd_tools.page.wire import QUESTIONS
 
 KINDS = ("/", "/engine", "/engine/block", PART, "/designers", "/designers/anna", "/designers/nobody-yet", "/.search", "/.search?q=piston",
-         "/.claim/c2", "/.branch?at=/engine")
+         "/.claim/c2", "/.branch?at=/engine", "/.blockers", "/.old", "/.old?days=0", "/.timeline", "/.timeline?at=/engine&by=anna")
 STREAM = b"GET /.events?see=/ HTTP/1.1\r\nHost: 127.0.0.1\r\n\r\n"
 UPGRADE = b"GET / HTTP/1.1\r\nHost: 127.0.0.1\r\nConnection: Upgrade\r\nUpgrade: websocket\r\n\r\n"
 FROM_ELSEWHERE = r'(?:src|href|action)="(?!/|#)[^"]*"|="//|<style|<script>| style=| on[a-z]+='
@@ -134,7 +135,35 @@ class Reading(WithPage):
         self.assertEqual([(row["designer"], row["stops"]) for row in json.loads(self.page.page("/designers?as=json"))], [("anna", 1), ("ben", 0)])
         version = json.loads(self.page.page(PART + "?as=json"))[0]
         self.assertEqual((version["version"], version["name"], version["by"], version["size"]), (1, CARD.name, "anna", CARD.size))
-        self.assertEqual([self.page.get(path)[0] for path in ("/?as=xml", "/?as=", "/.claim/c2?as=csv", "/nowhere?as=csv")], [404] * 4)
+        self.assertEqual([self.page.get(path)[0] for path in ("/?as=xml", "/?as=", "/.claim/c?as=csv", "/nowhere?as=csv")], [404] * 4)
+        self.assertEqual([(row["stands"], row["claim"]) for row in json.loads(self.page.page("/.claim/c2?as=json"))],
+                         [("itself", "c2"), ("waits for it", "c3")])
+        self.assertEqual([(row["stands"], row["claim"]) for row in csv.DictReader(io.StringIO(self.page.page("/.claim/c3?as=csv")))],
+                         [("in its way", "c2"), ("itself", "c3")])
+        found = json.loads(self.page.page("/.search?q=anna&as=json"))
+        self.assertEqual([(row["kind"], row["name"], row["place"], row["version"]) for row in found],
+                         [("claim", "c2", PART, None), ("designer", "anna", None, None), ("part", "piston", PART, 1)])
+        self.assertEqual(self.page.page("/.search?q=&as=csv"), "kind,name,place,version,title,by,why\r\n")
+        for path in ("/", "/engine", PART, "/designers", "/designers/anna", "/.claim/c2", "/.search?q=anna", "/.blockers", "/.old?days=3"):
+            links = re.findall(r'href="([^"]*as=(?:csv|json))"', self.page.page(path))
+            self.assertEqual((path, [self.page.get(html.unescape(link))[0] for link in links]), (path, [200, 200]))
+
+    def test_who_keeps_others_waiting(self) -> None:
+        """By time: who does so for longest comes first, with since when, and with who waits."""
+        self.anna.make("/wing")
+        self.anna.checkout(["w:/wing"])
+        self.ben.checkout(["w:" + PART])
+        self.anna.checkout(["r:" + PART])
+        stream = self.stream("/.blockers")
+        time.sleep(1.1)
+        self.ben.checkout(["w:/wing"])
+        stream.change("c5", "2 claims keep")
+        rows = json.loads(self.page.page("/.blockers?as=json"))
+        self.assertEqual([(row["claim"], row["designer"], row["stops"], row["waiting"]) for row in rows],
+                         [("c3", "ben", 1, "c4=anna"), ("c2", "anna", 1, "c5=ben")])
+        self.assertLess(rows[0]["since"], rows[1]["since"])
+        self.assertRegex(self.text("/.blockers"), r"2 claims keep 2 waiting.* ben c3 in a ring 1 change .* anna c4 .* anna c2 .*1 change /wing"
+                                                  r" .* ben c5")
 
     def test_how_full(self) -> None:
         """The page shows what it can ask for; of what it can't, it says who can."""

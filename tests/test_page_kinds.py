@@ -4,20 +4,38 @@ Pictures of all lie in tests/out, or in the folder that VAULT_PICTURES names.
 """
 
 import base64
+import tempfile
 import unittest
+from pathlib import Path
 from typing import Tuple
 
-from page_server import until
+from page_server import PageServer, until
 from with_page import CHECK, PICTURES, PISTON, WithOffice
 
 WINDOWS: Tuple[Tuple[str, int, int, bool], ...] = (("1280", 1280, 800, False), ("390", 390, 844, False), ("1280-dark", 1280, 800, True),
                                                    ("390-dark", 390, 844, True))
 KINDS = {"library": "/", "project": "/engine", "assembly": "/engine/head", "part": PISTON, "designers": "/designers", "designer": "/designers/anna",
+         "blockers": "/.blockers", "old": "/.old?days=0", "timeline": "/.timeline?all=1",
          "nobody": "/designers/nobody", "search": "/.search?q=crank", "nothing": "/.search?q=%3Cb%3E", "missing": "/engine/none"}
+
+
+LINE = ("2026-11-{0:02}T01:02:03.000004Z id=00000000000000a0.{0} vault=127.0.0.1:7070 from=192.0.2.7 key=SHA256:{1} by={2} as={3}"
+        " told {4} -> OK {5}\n")
+DONE = (("anna", "anna", f"checkout w:{PISTON} r:/engine", "held c7"), ("anna", "anna", f"save c7 {PISTON} (300 bytes)", "saved"),
+        ("ben", "anna", "give c7 cara", "given"), ("w" * 32, "w" * 32, "make /" + "/".join(["w" * 32] * 7), "place"),
+        ("cara", "cara", "checkin c7", "checked in 1"))
 
 
 class Kinds(WithOffice):
     """Each kind of page, as a busy office sees it."""
+
+    def setUp(self) -> None:
+        super().setUp()
+        folder = self.enterContext(tempfile.TemporaryDirectory(prefix="vault-test-"))
+        log = Path(folder, "gate.log")
+        log.write_text("".join(LINE.format(day % 28 + 1, "A" * 43, *DONE[day % len(DONE)]) for day in range(130)), "ascii")
+        self.page.end()
+        self.page = PageServer(self.server.port, "--title", "Plant 1 <machines>", "--gate-log", str(log))
 
     def test_each(self) -> None:
         """Nothing is wrong by the check in the page, the console is empty, and markup of strangers is text."""

@@ -6,7 +6,7 @@ import random
 import tempfile
 import time
 import unittest
-from datetime import datetime, timezone
+from datetime import datetime, timedelta, timezone
 from pathlib import Path
 from typing import Dict, List, Set
 
@@ -164,6 +164,51 @@ class Kept(unittest.TestCase):
 
 class Restart(WithPage):
     """The page's program is started again."""
+
+    def test_old_check_outs(self) -> None:
+        """Those older than so many days are told, the oldest first, by the gate's log; of how many that isn't known, too."""
+        items = ("r:" + PART, "r:/engine", "r:/engine/block")
+        for item in items:
+            self.anna.checkout([item])
+        line = "{} id=00000000000000a{}.1 vault=127.0.0.1:7070 from=- key=- by=anna as=anna told checkout {} -> OK held c{}\n"
+        log, today = self.folder / "gate.log", datetime.now(timezone.utc)
+        log.write_text("".join(line.format((today - timedelta(days=age)).strftime("%Y-%m-%dT%H:%M:%S.000000Z"), claim, item, claim)
+                               for claim, age, item in ((2, 9, items[0]), (3, 30, items[1]))), "ascii")
+        self.page.end()
+        self.page = PageServer(self.tap.port, "--gate-log", str(log))
+        self.addCleanup(lambda: self.page.end())
+        self.assertRegex(self.text("/.old?days=8"), r"2 check-outs are older than 8 days; the oldest first. Of 1 more it isn’t known since when .*"
+                                                    r" anna c3 30 held look at /engine .* anna c2 9 held look at " + PART)
+        self.assertEqual([row["claim"] for row in json.loads(self.page.page("/.old?days=10&as=json"))], ["c3"])
+        self.assertIn("0 check-outs are older than 31 days", self.text("/.old?days=31"))
+        self.assertEqual([self.page.get("/.old?days=" + days)[0] for days in ("", "x", "-1", "99999999", "0")], [200] * 5)
+
+    def test_the_timeline(self) -> None:
+        """What was done before the page was started is told from the logs, by place and designer, and what is done meanwhile is read on."""
+        line = ("2026-11-0{}T01:02:03.000004Z id=00000000000000a{}.1 vault={} from=192.0.2.7 key=SHA256:{} by={} as=anna told {}\n")
+        vault, key = f"127.0.0.1:{self.tap.port}", "A" * 43
+        log, before = self.folder / "gate.log", self.folder / "gate.log.1"
+        before.write_text(line.format(1, 1, vault, key, "anna", "make /engine -> OK place"), "ascii")
+        log.write_text("".join(line.format(number + 2, number + 2, where, key, by, said) for number, (where, by, said) in enumerate((
+            (vault, "anna", f"checkout w:{PART} -> OK held c7"), ("127.0.0.1:1", "anna", "make /elsewhere -> OK place"),
+            (vault, "ben", f"save c7 {PART} (9 bytes) -> OK saved"), (vault, "anna", "checkin c7 -> OK checked in 1"),
+            (vault, "anna", "make /refused -> ERR 21")))), "ascii")
+        self.page.end()
+        self.page = PageServer(self.tap.port, "--gate-log", str(log))
+        self.addCleanup(lambda: self.page.end())
+        self.assertRegex(self.text("/.timeline"), rf"3 changes, the last one first.* checked in c7 \(change {PART}\): 1 new version"
+                                                  rf" 2026-11-02 01:02 UTC an anna took c7 to change {PART}: held"
+                                                  r" 2026-11-01 01:02 UTC an anna made /engine This table")
+        self.assertIn("saved " + PART, self.text("/.timeline?all=1&at=/engine/block"))
+        self.assertRegex(self.text("/.timeline?by=ben&all=1"), "1 change, .* an anna by ben saved")
+        self.assertIn("0 changes", self.text("/.timeline?at=/wing"))
+        with log.open("a", encoding="ascii") as file:
+            file.write(line.format(9, 9, vault, key, "anna", "make /wing -> OK place"))
+        rows = json.loads(self.page.page("/.timeline?at=/&as=json"))
+        self.assertEqual([(row["time"], row["command"]) for row in rows][:2], [("2026-11-09T01:02:03Z", "make"), ("2026-11-05T01:02:03Z", "checkin")])
+        self.page.end()
+        self.page = PageServer(self.tap.port)
+        self.assertIn("This page reads no log.", self.text("/.timeline"))
 
     def test_since(self) -> None:
         """It knows since when it has known a check-out; without a folder for that it says that it was there before."""

@@ -89,7 +89,8 @@ def words(given: list[str] | None = None) -> argparse.Namespace:
                         " and, on this machine, localhost")
     parser.add_argument("--as", dest="designer", type=designer, default="page", metavar="NAME", help="the page's own designer's name (page)")
     parser.add_argument("--state", type=Path, metavar="FOLDER", help="where it keeps since when check-outs are held, over restarts")
-    parser.add_argument("--gate-log", type=Path, metavar="FILE", help="the ssh gate's log, which tells since when check-outs are held")
+    parser.add_argument("--gate-log", type=Path, metavar="FILE",
+                        help="the ssh gate's log, which tells since when check-outs are held, and what was done when")
     parser.add_argument("--title", default="The design vault", help="the vault's name on the page")
     parser.add_argument("--streams", type=stream_count, default=MAX_STREAMS, metavar="N",
                         help=f"how many open pages are told of changes at once ({MAX_STREAMS})")
@@ -146,7 +147,9 @@ def doors_of_designers(page: Page, asked: argparse.Namespace) -> SignedInDoors:
 async def serve(asked: argparse.Namespace) -> None:
     """Serves until a signal ends it."""
     loop = asyncio.get_running_loop()
-    page = Page(asked.vault[0], asked.vault[1], asked.designer, hosts_of(asked), asked.title, asked.streams, Times(asked.state, asked.gate_log))
+    logs = [log for log in (asked.gate_log, asked.log) if log]
+    times = Times(asked.state, asked.gate_log)
+    page = Page(asked.vault[0], asked.vault[1], asked.designer, hosts_of(asked), asked.title, asked.streams, times, logs)
     doors = Doors(page.answer, access_log=None, keepalive_timeout=KEEPALIVE_SECONDS, lingering_time=1.0, auto_decompress=False)
     listener = await loop.create_server(doors, *asked.listen, backlog=BACKLOG, reuse_address=True)
     signed_in, socket_of_nginx = None, acting_socket(asked)

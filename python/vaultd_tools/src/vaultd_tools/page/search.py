@@ -9,6 +9,7 @@ from dataclasses import dataclass
 from typing import Any
 from urllib.parse import urlencode
 
+from vaultd_tools.files import Claim
 from vaultd_tools.page.model import Model, Place, Version, now
 from vaultd_tools.page.render import Pieces
 from vaultd_tools.page.view import Source, View
@@ -80,9 +81,13 @@ class SearchView(View):
 
     def words(self, source: Source, pieces: Pieces) -> dict[str, Any]:
         """What was found."""
-        wanted = tuple(as_written(word) for word in self.asked.split())
         return {"title": f"Search · {source.vault}", "asked": self.asked, "time": now(),
-                "found": results(source, wanted, self.first) if wanted else Results(), "search": self}
+                "found": results(source, self.wanted, self.first) if self.wanted else Results(), "search": self}
+
+    @property
+    def wanted(self) -> tuple[str, ...]:
+        """The words that are looked for."""
+        return tuple(as_written(word) for word in self.asked.split())
 
     def further(self, first: int) -> str:
         """The address of other results of it."""
@@ -98,15 +103,22 @@ def search_for(query: dict[str, str]) -> SearchView:
 def results(source: Source, wanted: tuple[str, ...], first: int) -> Results:
     """All that has these words; of the places some from this one on."""
     model, rows = source.model, source.rows()
-    names = set(model.owners()) | {place.latest.card.by for place in model.places.values() if place.latest and place.latest.card}
-    designers = sorted(name for name in names if has_all(wanted, as_written(name)))
-    claims = [claim for claim in model.claims if has_all(wanted, as_written(" ".join(
-        [claim.name, claim.owner, claim.note.decode("utf-8", "replace"), *(item[2:] for item in claim.items)])))]
-    places = list(places_with(model, wanted))
+    claims, designers, places = all_found(source, wanted)
     shown = [found(place, version, wanted, model.names.get(place.path, "")) for place, version in places[first:first + FOUND_SHOWN]]
     return Results(rows.claims(claims[:FOUND_SHOWN]) if not first else (), designers[:FOUND_SHOWN] if not first else (), shown,
                    len(places) + len(designers) + len(claims), first, first + len(shown) if first + len(shown) < len(places) else 0,
                    len(model.versions), sum(place.versions for place in model.places.values()))
+
+
+def all_found(source: Source, wanted: tuple[str, ...]) -> tuple[list[Claim], list[str], list[tuple[Place, Version | None]]]:
+    """The claims, the designers and the places that have these words; nothing where there are none."""
+    model = source.model
+    if not wanted:
+        return [], [], []
+    names = set(model.owners()) | {place.latest.card.by for place in model.places.values() if place.latest and place.latest.card}
+    claims = [claim for claim in model.claims if has_all(wanted, as_written(" ".join(
+        [claim.name, claim.owner, claim.note.decode("utf-8", "replace"), *(item[2:] for item in claim.items)])))]
+    return claims, sorted(name for name in names if has_all(wanted, as_written(name))), list(places_with(model, wanted))
 
 
 def places_with(model: Model, wanted: tuple[str, ...]) -> Iterator[tuple[Place, Version | None]]:

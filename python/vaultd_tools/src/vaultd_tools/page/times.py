@@ -4,8 +4,7 @@ from __future__ import annotations
 
 import json
 import logging
-import os
-from collections.abc import Iterable, Iterator, Mapping
+from collections.abc import Iterable, Mapping
 from dataclasses import dataclass
 from datetime import datetime, timezone
 from pathlib import Path
@@ -15,11 +14,11 @@ from vault.store.card import TIME
 from vaultd_tools.files import Claim
 from vaultd_tools.gate.history import outcomes, records
 from vaultd_tools.page.model import Since
+from vaultd_tools.page.timeline import Tail, time_of
 
 FILE = "since.json"
 MOST_BYTES = 1 << 20
 MOST_OF_A_LOG = 64 << 20
-LOG_TIME = "%Y-%m-%dT%H:%M:%S.%fZ"
 
 
 @dataclass(frozen=True)
@@ -39,11 +38,10 @@ class Times:
     """The times of check-outs, by number."""
 
     def __init__(self, folder: Path | None = None, gate_log: Path | None = None):
-        self.file, self.gate_log = folder / FILE if folder else None, gate_log
+        self.file, self.tail = folder / FILE if folder else None, Tail(gate_log, MOST_OF_A_LOG) if gate_log else None
         self.known: dict[str, Known] = {}
         self.logged: dict[str, Known] = {}
         self.written: bytes = b""
-        self._read_to = (0, 0)
         self._read()
 
     def recalled(self, claim: Claim) -> Since | None:
@@ -71,28 +69,16 @@ class Times:
 
     def read_log(self) -> None:
         """Reads on in the gate's log."""
-        if self.gate_log is None:
+        if self.tail is None:
             return
         try:
-            for record in outcomes(records(self._new_lines(self.gate_log), [])):
+            for record in outcomes(records(self.tail.new(), [])):
                 said = record.reply.split()
                 if record.done and record.words[0] == "checkout" and len(said) > 2:
-                    when = datetime.strptime(record.time, LOG_TIME).replace(tzinfo=timezone.utc, microsecond=0)
-                    self.logged[said[2]] = Known(record.name, tuple(record.words[1:]), Since(when, True))
+                    self.logged[said[2]] = Known(record.name, tuple(record.words[1:]), Since(time_of(record), True))
         except OSError as error:
-            logging.warning("the gate's log %s can't be read (%s), so times are when the page first saw a claim", self.gate_log, error.strerror)
-            self.gate_log = None
-
-    def _new_lines(self, path: Path) -> Iterator[str]:
-        with open(path, "rb") as log:
-            state = os.fstat(log.fileno())
-            inode, end = self._read_to
-            begin = end if inode == state.st_ino and end <= state.st_size else 0
-            log.seek(max(begin, state.st_size - MOST_OF_A_LOG))
-            for line in log:
-                if line.endswith(b"\n"):
-                    self._read_to = (state.st_ino, log.tell())
-                    yield line.decode("ascii", "replace")
+            logging.warning("the gate's log %s can't be read (%s), so times are when the page first saw a claim", self.tail.path, error.strerror)
+            self.tail = None
 
     def _read(self) -> None:
         """Takes in the file. One that isn't of this form is no file of the page's, and counts for nothing."""

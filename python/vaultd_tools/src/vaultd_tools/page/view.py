@@ -8,6 +8,7 @@ from typing import Any
 from vaultd_tools.page.model import Model
 from vaultd_tools.page.render import Pieces, Renderer
 from vaultd_tools.page.rows import Rows
+from vaultd_tools.page.timeline import Timeline
 from vaultd_tools.page.tree import Tree
 from vaultd_tools.page.waits import Line
 from vaultd_tools.page.watch import Watcher
@@ -23,6 +24,7 @@ class Source:
     vault: str
     # Of which parts designers who are signed in have drafts, by their check-outs.
     drafts: dict[str, dict[str, tuple[str, ...]]] = field(default_factory=dict)
+    timeline: Timeline = field(default_factory=Timeline)
 
     def rows(self) -> Rows:
         """The queue in rows."""

@@ -17,6 +17,7 @@ from vaultd_tools.page.render import APART, TAKEN, Pieces, address
 from vaultd_tools.page.rows import who_is_at
 from vaultd_tools.page.search import search_for
 from vaultd_tools.page.tree import Tree
+from vaultd_tools.page.upkeep import upkeep_at
 from vaultd_tools.page.view import Source, View
 from vaultd_tools.page.waits import Line
 from vaultd_tools.page.watch import Watcher, concerns, is_place
@@ -239,8 +240,17 @@ class ClaimView(View):
         """Where it is."""
         return "/.claim/" + self.name
 
+    def line(self, source: Source) -> Iterator[tuple[str, Claim]]:
+        """The claims before it, itself, and all that wait for it, each with how it stands to it."""
+        line = Line.of(source.model.claims)
+        claim = next((claim for claim in source.model.claims if claim.name == self.name), None)
+        if claim is not None:
+            yield from (("in its way", one) for one in line.before(claim))
+            yield "itself", claim
+            yield from (("waits for it", one.wait.waiting) for one in line.stopped(claim))
+
     def pieces(self, source: Source) -> Pieces:
-        """The claim, and those before and behind it."""
+        """The claim, what is in its way, and what waits for it."""
         renderer, pieces, rows = source.renderer, source.common(), source.rows()
         claim = next((claim for claim in source.model.claims if claim.name == self.name), None)
         before = rows.line.before(claim) if claim else []
@@ -266,6 +276,10 @@ def view_at(path: str, query: dict[str, str]) -> View | None:
     """The page at an address, by the address as it was sent: no name needs another spelling."""
     if path == "/.search":
         return search_for(query)
+    if path.startswith("/."):
+        found = upkeep_at(path, query)
+        if found is not None:
+            return found
     if path.startswith("/.claim/"):
         name = path[len("/.claim/"):]
         return ClaimView(name) if CLAIM.fullmatch(name) else None

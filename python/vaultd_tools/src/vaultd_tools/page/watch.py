@@ -20,6 +20,7 @@ from vaultd_tools.files import Claim
 from vaultd_tools.page.line import ways
 from vaultd_tools.page.model import (
     KEPT_VERSIONS, MAX_BENEATH, MAX_CLAIMS, MAX_NAMES, MAX_PLACES, Link, Model, Place, Since, Version, depth, now)
+from vaultd_tools.page.timeline import Timeline
 from vaultd_tools.page.times import Times
 from vaultd_tools.page.wire import Broken, Wire, refused
 
@@ -70,9 +71,9 @@ class Watcher:
     show and that aren't known."""
 
     def __init__(self, host: str, port: int, designer: str, publish: Callable[[], None], wanted: Callable[[], Iterable[tuple[str, int]]],
-                 times: Times | None = None):
+                 times: Times | None = None, timeline: Timeline | None = None):
         self.host, self.port, self.designer, self.publish, self.wanted = host, port, designer, publish, wanted
-        self.times = times or Times()
+        self.times, self.timeline = times or Times(), timeline or Timeline()
         self.model = Model()
         self.streams = 0
         # Whether all places were read once, and whether the model differs from what was published.

@@ -10,7 +10,8 @@ import contextlib
 import gzip
 import re
 import secrets
-from collections.abc import Iterable, Iterator
+from collections.abc import Iterable, Iterator, Sequence
+from pathlib import Path
 from typing import Any
 from urllib.parse import parse_qsl
 
@@ -22,6 +23,7 @@ from vaultd_tools.page.model import News
 from vaultd_tools.page.render import STATIC, Renderer, fingerprint, static
 from vaultd_tools.page.streams import BEAT, Channel, Stream, again
 from vaultd_tools.page.tables import KINDS, table_of
+from vaultd_tools.page.timeline import Timeline
 from vaultd_tools.page.times import Times
 from vaultd_tools.page.tree import Tree
 from vaultd_tools.page.view import Source, View
@@ -55,10 +57,10 @@ class Page:
     """The page of one vault."""
 
     def __init__(self, host: str, port: int, designer: str, hosts: Iterable[str], title: str, most_streams: int = MAX_STREAMS,
-                 times: Times | None = None):
-        self.watcher = Watcher(host, port, designer, self.publish, self.wanted, times)
+                 times: Times | None = None, logs: Sequence[Path] = ()):
         server = f"[{host}]:{port}" if ":" in host else f"{host}:{port}"
-        self.source = Source(Renderer(links=True), self.watcher.model, server, title)
+        self.watcher = Watcher(host, port, designer, self.publish, self.wanted, times, Timeline(f"{host}:{port}", logs))
+        self.source = Source(Renderer(links=True), self.watcher.model, server, title, timeline=self.watcher.timeline)
         self.source.renderer.prepare()
         self.hosts = frozenset(name.lower() for name in hosts)
         self.most_streams = most_streams
@@ -234,7 +236,7 @@ class Page:
         """What a page shows, for another program."""
         table = table_of(view, self.source)
         if table is None or kind not in KINDS:
-            raise Refusal(404, "This page has no such table: of places, parts and designers there is ?as=csv and ?as=json.")
+            raise Refusal(404, "This page has no such table: ?as=csv and ?as=json are behind the address of a page with a table.")
         response = self._response(200, table.spelled(kind), KINDS[kind], NOT_KEPT)
         response.headers["Content-Disposition"] = f"attachment; filename=vault.{kind}"
         return response
