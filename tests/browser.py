@@ -50,13 +50,13 @@ class QuietHandler(http.server.SimpleHTTPRequestHandler):
 
 
 class Browser:
-    """Chromium with a profile of its own, which finds no host but 127.0.0.1."""
+    """Chromium with a profile of its own, which finds no host but 127.0.0.1, and further words of its command line."""
 
-    def __init__(self) -> None:
+    def __init__(self, *words: str) -> None:
         self.profile = tempfile.TemporaryDirectory(prefix="vault-browser-", ignore_cleanup_errors=True)
         options = webdriver.ChromeOptions()
         options.binary_location = needed("chromium")
-        for word in (*WORDS, f"--user-data-dir={self.profile.name}"):
+        for word in (*WORDS, *words, f"--user-data-dir={self.profile.name}"):
             options.add_argument(word)  # type: ignore[no-untyped-call]
         self.driver = webdriver.Chrome(options=options, service=Service(needed("chromedriver")))
         self.driver.set_page_load_timeout(SECONDS)

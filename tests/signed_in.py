@@ -31,6 +31,10 @@ http {{
   fastcgi_temp_path {folder}/fastcgi;
   uwsgi_temp_path {folder}/uwsgi;
   scgi_temp_path {folder}/scgi;
+  {within}
+}}
+"""
+SERVER = """
   server {{
     listen 127.0.0.1:{port};
     server_name 127.0.0.1;
@@ -38,8 +42,9 @@ http {{
     auth_basic_user_file {folder}/passwords;
     {location}
   }}
-}}
 """
+OFFICE = "vault.example.org"
+NEW_KEY = ("-newkey", "ec", "-pkeyopt", "ec_paramgen_curve:prime256v1", "-nodes")
 
 
 def location_of(socket_path: Path) -> str:
@@ -50,38 +55,103 @@ def location_of(socket_path: Path) -> str:
     return found[0].replace("unix:/run/vaultd-page/signed-in.socket", f"unix:{socket_path}")
 
 
-class Nginx:
-    """nginx with a password for each of some designers, before a socket."""
+class WebServer:
+    """nginx by a configuration."""
 
-    def __init__(self, names: List[str], socket_path: Path):
-        self.folder = tempfile.TemporaryDirectory(prefix="vault-nginx-", dir=MEMORY)
-        folder = Path(self.folder.name)
-        self.port = free_port()
-        lines = [f"{name}:" + subprocess.run(["openssl", "passwd", "-apr1", "secret-of-" + name], check=True, capture_output=True, text=True).stdout
-                 for name in names]
-        (folder / "passwords").write_text("".join(lines), "ascii")
-        (folder / "nginx.conf").write_text(CONF.format(user=getpass.getuser(), folder=folder, port=self.port, location=location_of(socket_path)),
-                                           "utf-8")
-        self.process = subprocess.Popen([needed("nginx"), "-c", str(folder / "nginx.conf"), "-e", str(folder / "error.log")],
+    def __init__(self) -> None:
+        self.kept = tempfile.TemporaryDirectory(prefix="vault-nginx-", dir=MEMORY)
+        self.folder, self.port = Path(self.kept.name), free_port()
+
+    def start(self, within: str) -> None:
+        """Starts it, and waits until it answers."""
+        conf = self.folder / "nginx.conf"
+        conf.write_text(CONF.format(user=getpass.getuser(), folder=self.folder, within=within), "utf-8")
+        self.process = subprocess.Popen([needed("nginx"), "-c", str(conf), "-e", str(self.folder / "error.log")],
                                         stdin=subprocess.DEVNULL, stdout=subprocess.DEVNULL, stderr=subprocess.DEVNULL)
         until(self._answers, 20)
+
+    def let_in(self, names: List[str]) -> None:
+        """Writes a password for each of some designers."""
+        lines = [f"{name}:" + subprocess.run(["openssl", "passwd", "-apr1", "secret-of-" + name], check=True, capture_output=True, text=True).stdout
+                 for name in names]
+        (self.folder / "passwords").write_text("".join(lines), "ascii")
 
     def _answers(self) -> bool:
         with contextlib.suppress(OSError), socket.create_connection(("127.0.0.1", self.port), timeout=1):
             return True
         if self.process.poll() is not None:
-            raise AssertionError((Path(self.folder.name) / "error.log").read_text("utf-8"))
+            raise AssertionError((self.folder / "error.log").read_text("utf-8"))
         return False
-
-    def address(self, name: str = "") -> str:
-        """Where browsers find it, with a designer's password where one is named."""
-        return f"http://{name + ':secret-of-' + name + '@' if name else ''}127.0.0.1:{self.port}"
 
     def close(self) -> None:
         """Ends it."""
         self.process.terminate()
         self.process.wait(20)
-        self.folder.cleanup()
+        self.kept.cleanup()
+
+
+class Nginx(WebServer):
+    """nginx with a password for each of some designers, before a socket."""
+
+    def __init__(self, names: List[str], socket_path: Path):
+        super().__init__()
+        self.let_in(names)
+        self.start(SERVER.format(folder=self.folder, port=self.port, location=location_of(socket_path)))
+
+    def address(self, name: str = "") -> str:
+        """Where browsers find it, with a designer's password where one is named."""
+        return f"http://{name + ':secret-of-' + name + '@' if name else ''}127.0.0.1:{self.port}"
+
+
+class Example(WebServer):
+    """nginx by one of the examples as it is, with TLS, before a socket; with certificates of an authority that is made for it."""
+
+    def __init__(self, name: str, socket_path: Path, **places: str):
+        super().__init__()
+        self.let_in(["anna", "ben"])
+        self.authority("office-ca")
+        self.certificate("server", f"/CN={OFFICE}", "office-ca", f"subjectAltName=DNS:{OFFICE},IP:127.0.0.1")
+        text = (TOP / "contrib" / "page" / name).read_text("utf-8")
+        for here, there in {
+                "listen 443 ssl http2;": f"listen 127.0.0.1:{self.port} ssl http2;", "listen [::]:443 ssl http2;": "",
+                f"/etc/ssl/certs/{OFFICE}.pem": f"{self.folder}/server.pem", f"/etc/ssl/private/{OFFICE}.key": f"{self.folder}/server.key",
+                "/etc/ssl/certs/office-ca.pem": f"{self.folder}/office-ca.pem", "/etc/nginx/vault.htpasswd": f"{self.folder}/passwords",
+                "unix:/run/vaultd-page/signed-in.socket": f"unix:{socket_path}", **places}.items():
+            text = text.replace(here, there)
+        self.start(text)
+
+    def openssl(self, *words: str) -> None:
+        """Runs openssl in its folder."""
+        subprocess.run(["openssl", *words], cwd=self.folder, check=True, capture_output=True)
+
+    def authority(self, name: str) -> None:
+        """Makes an authority."""
+        self.openssl("req", "-x509", *NEW_KEY, "-days", "2", "-subj", "/CN=" + name, "-keyout", f"{name}.key", "-out", f"{name}.pem")
+
+    def certificate(self, name: str, subject: str, authority: str, extension: str = "basicConstraints=CA:FALSE") -> None:
+        """Makes a certificate by an authority."""
+        self.openssl("req", *NEW_KEY, "-subj", subject, "-keyout", f"{name}.key", "-out", f"{name}.csr")
+        (self.folder / "extension").write_text(extension + "\n", "ascii")
+        self.openssl("x509", "-req", "-in", f"{name}.csr", "-CA", f"{authority}.pem", "-CAkey", f"{authority}.key", "-CAcreateserial", "-days", "2",
+                     "-extfile", "extension", "-out", f"{name}.pem")
+
+    def curl(self, path: str, *words: str) -> Tuple[int, str, str]:
+        """What curl gets: the status, the version of HTTP, and the body."""
+        done = subprocess.run(["curl", "-sS", "--max-time", "60", "--cacert", "office-ca.pem", "--resolve", f"{OFFICE}:{self.port}:127.0.0.1",
+                               "-w", "\n%{http_version} %{http_code}", *words, self.origin + path],
+                              cwd=self.folder, check=False, capture_output=True, text=True)
+        body, _, told = done.stdout.rpartition("\n")
+        version, status = told.split()
+        return int(status), version, body
+
+    def as_designer(self, name: str) -> Tuple[str, ...]:
+        """The words by which curl has a certificate."""
+        return ("--cert", f"{name}.pem", "--key", f"{name}.key")
+
+    @property
+    def origin(self) -> str:
+        """Its origin."""
+        return f"https://{OFFICE}:{self.port}"
 
 
 class SignedInPage(PageServer):
