@@ -42,7 +42,7 @@ BENCH_SECONDS, BENCH_PORTS = 400, 8
 # A name of code in a span: with an underscore, or of two words as types have it.
 NAME = re.compile(r"(?<![}\w])(?:[A-Za-z]\w*_\w+|[A-Z][a-z]+[A-Z]\w*)")
 # Names from elsewhere: of the language's library and tools, of the kernel, of a cluster's fences; and one of an example.
-FOREIGN = {"writes_back", "shift_remove", "RT_JOBS", "sched_vcpu_pack", "fence_scsi", "fence_mpath", "try_it", "ReadWritePaths"}
+FOREIGN = {"writes_back", "shift_remove", "RT_JOBS", "sched_vcpu_pack", "fence_scsi", "fence_mpath", "try_it"}
 # Options of the kit that its help doesn't have.
 OF_THE_KIT = {"--allow-holes", "--short-goals"}
 # Words before a program's name in a command.

@@ -20,7 +20,7 @@ OPERATING, SCALE = ((TOP / "docs" / page).read_text("utf-8") for page in ("OPERA
 BLOCKS = {"start.sh": "contrib/install", "watch.sh": "systemctl enable --now vaultd-watch.timer", "broken.sh": "journalctl -u vaultd -n 20",
           "metrics.sh": "apt-get install prometheus-node-exporter", "store.sh": "install -d -g designers",
           "sweep.sh": "runuser -u vaultd -- vaultd-sweep",
-          "page.sh": "apt-get install python3-aiohttp",
+          "page.sh": "apt-get install python3-aiohttp", "acts.sh": "install -d /etc/systemd/system/vaultd-page.service.d",
           "backup.sh": "systemctl enable --now vaultd-backup.timer", "by_hand.sh": "same() {", "look.sh": "vaultd check /var/lib/vaultd/a",
           "gate.sh": "apt-get install openssh-server nftables", "upgrade.sh": "systemctl start vaultd-backup  # the way back"}
 # The one of the page on several vaults.

@@ -17,11 +17,15 @@ from unittest import mock
 from page_server import soon, until
 from servers import MEMORY, Server
 from signed_in import SignedInPage, multipart
+from test_rclone import Remote
 
 from vault import Client
+from vault.store.address import read_store_address
+from vault.store.base import StoreFaultError
 from vault.store.card import Card
-from vault.store.setting import Setting
+from vault.store.setting import Setting, open_store
 from vault.store.naming import survey
+from vaultd_tools.page import uploads
 from vaultd_tools.page.acting import PATIENCE_SECONDS
 from vaultd_tools.page.identity import TOKEN_SECONDS, Identity
 from vaultd_tools.page.signed_in import UPLOADS_AT_ONCE
@@ -45,15 +49,19 @@ class WithActs(unittest.TestCase):
         self.server.start()
         self.anna, self.ben = self.client("anna"), self.client("ben")
         self.store = self.folder / "store"
-        Setting(self.anna).set(f"file://{self.store}")
+        Setting(self.anna).set(self.address())
         for place in ("/engine", "/engine/block", PART):
             self.anna.make(place)
         self.log = self.folder / "changes.log"
         self.page = self.started()
 
+    def address(self) -> str:
+        """The address of the store."""
+        return f"file://{self.store}"
+
     def started(self) -> SignedInPage:
         """The page's program."""
-        page = SignedInPage(self.server.port, self.folder, "--store", f"file://{self.store}", "--log", str(self.log), *self.words)
+        page = SignedInPage(self.server.port, self.folder, "--store", self.address(), "--log", str(self.log), *self.words)
         self.addCleanup(lambda: self.assertEqual(page.end().replace(NO_SYSLOG, b""), b""))
         return page
 
@@ -358,6 +366,13 @@ class Uploads(WithActs):
         self.assertIn("another designer", self.page.put("ben", "c2", PART, {"x": b"x"})[1])
         self.assertEqual((self.kept(), self.anna.drafts("c2")), (before, []))
 
+    def test_no_room(self) -> None:
+        """What the store's disk has no room for is refused before it comes."""
+        store = open_store(read_store_address(self.address()))
+        uploads.check_room(store, 3_000_000, self.folder / "spool")
+        with self.assertRaisesRegex(StoreFaultError, "The store has no room for that"):
+            uploads.check_room(store, 1 << 60, self.folder / "spool")
+
     def test_broken_off(self) -> None:
         """Of an upload that ends in the middle nothing is left, and the designer's next one is taken."""
         self.page.act("anna", "checkout", place="/engine/block")
@@ -464,6 +479,49 @@ class Downloads(WithActs):
         with zipfile.ZipFile(io.BytesIO(body)) as archive:
             self.assertEqual((len(archive.namelist()), archive.testzip()), (300, None))
             self.assertEqual(archive.read("rib_3/Teil 7.step"), named[3 * 60 + 7][1])
+
+
+class OverRclone(WithActs):
+    """A store that is a remote of rclone: here over WebDAV."""
+
+    def setUp(self) -> None:
+        self.remote = Remote("webdav", Path(self.enterContext(tempfile.TemporaryDirectory(prefix="vault-test-"))))
+        self.remote.start()
+        self.addCleanup(lambda: self.remote.stop())
+        self.enterContext(mock.patch.dict(os.environ, {"RCLONE_CONFIG": str(self.remote.config)}))
+        super().setUp()
+
+    def address(self) -> str:
+        """The address of the store."""
+        return "rclone:office:vault"
+
+    def waiting(self) -> List[str]:
+        """What waits at the page for the remote, or for a browser."""
+        return [path.name for path in (self.folder / "spool").iterdir()]
+
+    def test_there_and_back(self) -> None:
+        """Files go to the remote and come back, and nothing of them stays at the page."""
+        files = {"Kolben 80.SLDPRT": b"bore 80" * 300_000, "rod": b"b"}
+        self.page.act("anna", "checkout", place="/engine/block")
+        self.assertEqual(self.page.put("anna", "c2", "/engine/block", files)[1],
+                         "/engine/block/kolben_80_sldprt, /engine/block/rod are drafts in c2.")
+        self.assertEqual(self.page.act("anna", "checkin", claim="c2", why="first")[1], "c2 is checked in: 2 new versions.")
+        self.assertEqual(self.page.ask("ben", "/.file/engine/block/kolben_80_sldprt")[2], files["Kolben 80.SLDPRT"])
+        with zipfile.ZipFile(io.BytesIO(self.page.ask("ben", "/.zip/engine")[2])) as archive:
+            self.assertEqual({name: archive.read(name) for name in archive.namelist()}, {"block/" + name: each for name, each in files.items()})
+        self.assertEqual(self.waiting(), [])
+
+    def test_away(self) -> None:
+        """With the remote away an upload and a check-in are refused by rclone's own words, and nothing stays."""
+        self.page.act("anna", "checkout", place=PART)
+        self.page.put("anna", "c2", PART, {"piston": b"x"})
+        self.remote.stop()
+        told = self.page.put("anna", "c2", PART, {"piston": b"y" * 100_000})[1]
+        self.assertIn("refused: The store rclone:office:vault can't be used: rclone says", told)
+        self.assertIn("can't be used: rclone says", self.page.act("anna", "checkin", claim="c2")[1])
+        self.assertEqual(self.waiting(), [])
+        self.remote.start()
+        self.assertEqual(self.page.act("anna", "checkin", claim="c2")[1], "c2 is checked in: 1 new version.")
 
 
 class WithoutAStore(unittest.TestCase):

@@ -15,7 +15,7 @@ class Away(WithOffice):
     """What an open page says where the vault, its own server or its reader is away, and after that."""
 
     def test_the_vault_goes_away(self) -> None:
-        """The page says since when, shows what it knew, and goes on by itself."""
+        """The page says since when, shows what it knew, and goes on by itself; a search does, too."""
         self.office.build()
         claim = self.say("cara", f"checkout w:{PISTON}").split()[2]
         self.open("/")
@@ -30,6 +30,12 @@ class Away(WithOffice):
         self.office.sessions.clear()
         self.say("ben", f"checkout w:{PISTON}")
         self.shows("#blockers", f"for {claim} of cara")
+        self.open("/.search?q=piston")
+        self.server.kill()
+        self.shows("#state", "No vault since", 3)
+        self.assertRegex(self.words("#pill"), r"^as of \d\d:\d\d$")
+        self.server.start()
+        until(lambda: self.words("#pill") == "live" and self.words("#state") == "", 15)
 
     def test_the_page_goes_away(self) -> None:
         """A page whose own server was started again is right again by itself, also about what happened meanwhile."""

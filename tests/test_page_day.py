@@ -20,6 +20,11 @@ from vault import Client
 from vault.store.setting import Setting
 
 NAMES = ["anna", "ben"]
+# What the page tells by notifications.
+NOTED = """
+window.noted = [];
+window.Notification = class extends Notification { constructor(words, more) { super(words, more); noted.push(words); } };
+"""
 WINDOWS = (("1280", 1280, 800, False), ("390", 390, 844, False), ("1280-dark", 1280, 800, True), ("390-dark", 390, 844, True))
 
 
@@ -338,17 +343,21 @@ class UnderTheHand(WithDesigners):
         anna.shows(".told", "c2 is given up, with its drafts.")
 
     def test_what_can_be_done_now(self) -> None:
-        """Once what waits is held, the page has the forms for what is held."""
+        """Anna gives way to Ben by one button. His page tells that by a notification, and has the forms for what is held."""
         anna = self.anna
         self.at_a_part(anna)
         self.page.act("ben", "checkout", place="/engine/block/part")
         ben = self.person("ben")
+        ben.browser.driver.execute_cdp_cmd("Browser.grantPermissions", {"permissions": ["notifications"]})
+        ben.browser.driver.execute_cdp_cmd("Page.addScriptToEvaluateOnNewDocument", {"source": NOTED})
         ben.open("/.claim/c3")
         ben.write("note", note="I am nex")
         ben.shows("main", "It waits. This page tells when it is held.")
-        self.page.act("anna", "abandon", claim="c2")
+        anna.open("/.mine")
+        anna.shows("#asked", "You are in ben’s way at /engine/block/part (contested) with c2")
+        anna.press("Give c2 up")
         ben.shows("main", "It has no drafts yet.")
-        self.assertEqual(ben.browser.value("document.activeElement.value"), "I am nex")
+        self.assertEqual(ben.browser.value("[document.activeElement.value, window.noted]"), ["I am nex", ["c3 is held"]])
 
 
 class Files(WithDesigners):

@@ -4,6 +4,7 @@ Pictures of all lie in tests/out, or in the folder that VAULT_PICTURES names.
 """
 
 import base64
+import json
 import tempfile
 import unittest
 from pathlib import Path
@@ -93,6 +94,88 @@ class Kinds(WithOffice):
         self.browser.open(self.page.address + PISTON)
         self.assertIn("Piston.SLDPRT", self.browser.driver.page_source)
         self.browser.run_scripts(True)
+
+
+class Browsing(WithOffice):
+    """What somebody sees first, and finds again."""
+
+    def test_the_first_screen(self) -> None:
+        """Without scrolling it shows who is in whose way: a claim, and who waits for it, in both sizes."""
+        self.fill()
+        self.open("/")
+        for width, height in ((1280, 800), (390, 844)):
+            self.browser.show(width, height)
+            for selector in ("#blockers > li > .who", "#blockers > li .stopped > li > .who"):
+                bottom = self.browser.value(f"document.querySelector({json.dumps(selector)}).getBoundingClientRect().bottom")
+                self.assertLess(bottom, height, (selector, width))
+        for width in (960, 1024):
+            for path in ("/", PISTON, "/designers", "/gripper/base/flange"):
+                self.browser.show(width, 800)
+                self.open(path)
+                self.assertEqual((path, width, self.browser.value(CHECK)), (path, width, []))
+
+    def test_back(self) -> None:
+        """Who comes back finds open what was open, shut what was shut, and the page where it stood."""
+        self.fill()
+        self.browser.show(1280, 500)
+        self.open("/")
+        shut = self.browser.value("(branch => { branch.querySelector('summary').click(); return branch.firstElementChild.id; })"
+                                  "(document.querySelector('.tree details[open]'))")
+        self.browser.value("document.querySelector('#held details:not([open]) summary').click()")
+        opened = self.browser.value("document.querySelector('#held details[open]').id")
+        self.browser.value("new Promise(go => { scrollTo(0, 300); setTimeout(go, 200); })")
+        self.browser.value("document.querySelector('#blockers .designer').click()")
+        until(lambda: "/designers/" in self.browser.driver.current_url, 10)
+        self.browser.driver.back()
+        until(lambda: self.is_so(f"document.getElementById({json.dumps(opened)})?.open && scrollY > 200"), 10)
+        self.assertFalse(self.browser.value(f"document.getElementById({json.dumps(shut)}).parentElement.open"))
+
+    def test_to_the_tree(self) -> None:
+        """Two keys lead past the claims to the tree, however many these are."""
+        self.fill()
+        self.open("/")
+        for expected in ("To the content", "To the tree"):
+            self.browser.driver.switch_to.active_element.send_keys("\ue004")
+            self.assertEqual(self.browser.value("document.activeElement.innerText"), expected)
+        self.browser.driver.switch_to.active_element.send_keys("\ue007")
+        until(lambda: self.is_so("document.activeElement.id === 'tree-title'"), 5)
+        self.browser.driver.switch_to.active_element.send_keys("\ue004")
+        self.assertTrue(self.is_so("!!document.activeElement.closest('.tree')"))
+
+    def test_eight_windows(self) -> None:
+        """All are live by HTTP/1.1, though a browser opens six connections to a place: they share one stream."""
+        self.office.build()
+        self.open("/")
+        driver, paths = self.browser.driver, ("/engine", PISTON, "/designers", "/designers/anna", "/.blockers", "/press", "/.search?q=crank")
+        first = driver.current_window_handle
+        for path in paths:
+            driver.switch_to.new_window("tab")
+            self.open(path)
+        self.say("cara", f"checkout w:{PISTON}")
+        for window in driver.window_handles[:4]:
+            driver.switch_to.window(window)
+            until(lambda: "cara" in self.words("main") and self.words("#pill") == "live", 10)
+        driver.switch_to.window(first)
+        self.assertEqual(self.browser.complaints(), [])
+
+    def test_links_and_colours(self) -> None:
+        """A link in a text has a line beneath it. Designers are more than colours: initials and names tell them apart."""
+        self.fill()
+        names = [f"designer_{number:02}" for number in range(30)]
+        for name in names:
+            self.say(name, "checkout r:/conveyor")
+        self.open("/designers")
+        self.shows("main", names[-1])
+        faces = self.browser.value("[...document.querySelectorAll('#designers th')].map(each => [each.querySelector('.designer').innerText,"
+                                   " each.querySelector('.face').innerText, getComputedStyle(each.querySelector('.face')).backgroundColor])")
+        self.assertEqual([name for name, _, _ in faces if name in names], names)
+        self.assertLess(len({colour for _, _, colour in faces}), len(faces))
+        self.assertEqual({initials for name, initials, _ in faces if name in names}, {f"d{digit}" for digit in "012"})
+        for path in ("/", PISTON, "/designers"):
+            self.open(path)
+            plain = self.browser.value("[...document.querySelectorAll('main a')].filter(each => !each.matches('.leaf, .fetch, .button, .crumbs a') &&"
+                                       " !getComputedStyle(each).textDecorationLine.includes('underline')).map(each => each.outerHTML)")
+            self.assertEqual((path, plain), (path, []))
 
 
 if __name__ == "__main__":

@@ -89,7 +89,7 @@ class Upload:
 
         def look(client: Designer) -> Target:
             target = target_of(client, self.acting.parts(client).store, claim, place, "folder" in self.fields)
-            check_room(target.store, self.room)
+            check_room(target.store, self.room, self.acting.spool)
             return target
         return await self.acting.perform(self.name, look)
 

@@ -114,12 +114,15 @@ def target_of(client: Designer, store: Callable[[], Store | None], claim: str, p
     return Target(claim, place, part, store(), There.look(client, claim, place, folder))
 
 
-def check_room(store: Store | None, size: int) -> None:
-    """Refuses what a store in a folder has no room for."""
-    if isinstance(store, FolderStore):
-        disk = os.statvfs(store.folder)
-        if disk.f_bavail * disk.f_frsize < size + LEAVES_FREE:
-            raise StoreFaultError("The store has no room for that. Ask whoever runs it; nothing was put.")
+def check_room(store: Store | None, size: int, spool: Path) -> None:
+    """Refuses what a store in a folder has no room for, or what waits here for another one."""
+    if store is None:
+        return
+    folder, whose = (store.folder, "store") if isinstance(store, FolderStore) else (spool, "page")
+    spool.mkdir(mode=0o700, parents=True, exist_ok=True)
+    disk = os.statvfs(folder)
+    if disk.f_bavail * disk.f_frsize < size + LEAVES_FREE:
+        raise StoreFaultError(f"The {whose} has no room for that. Ask whoever runs it; nothing was put.")
 
 
 def received(client: Designer, target: Target, coming: Coming, file: File, spool: Path) -> Taken:
