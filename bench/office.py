@@ -15,6 +15,7 @@ import statistics
 import subprocess
 import sys
 import time
+import tomllib
 
 from measure import arguments, head, prepared, table
 
@@ -52,6 +53,9 @@ class Vault:
         self.folder, self.imports = folder, os.path.exists(os.path.join(clone, "python/vault/src/vault/cli/import_commands.py"))
         state = os.path.join(folder, "state")
         source = os.path.join(clone, "python", "vault", "src")
+        with open(os.path.join(clone, "python", "vault", "pyproject.toml"), "rb") as file:
+            module, _, function = tomllib.load(file)["project"]["scripts"]["vault"].partition(":")
+        self.start = f"import sys\nfrom {module} import {function}\nsys.exit({function}())\n"
         # as an installation does; what can't be written costs time alone
         subprocess.run([sys.executable, "-m", "compileall", "-qq", source], check=False)
         self.environment = {**os.environ, "PYTHONPATH": source, "XDG_STATE_HOME": state, "XDG_CACHE_HOME": state}
@@ -59,8 +63,8 @@ class Vault:
         self.round = 0
 
     def said(self, *words):
-        """How long a command takes."""
-        return timed([[sys.executable, "-m", "vault", *words]], env=self.environment)
+        """How long a command takes, begun as by the script of an installation."""
+        return timed([[sys.executable, "-c", self.start, *words]], env=self.environment)
 
     def all_said(self, *every):
         """How long some commands take."""

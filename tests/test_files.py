@@ -21,7 +21,7 @@ from vault.store.parts import Parts
 from vault.working import Working
 from vault.working.opening import folder_for
 
-OPTIONAL = ("platformdirs", "rich", "rich.table", "rich.console", "rich.text", "tqdm")
+OPTIONAL = ("filelock", "platformdirs", "rich", "rich.table", "rich.console", "rich.text", "tqdm")
 
 
 def can_mount() -> bool:
@@ -171,7 +171,7 @@ class Shown(WithStore):
 
 
 class Libraries(WithStore):
-    """Without platformdirs, rich and tqdm all works; only filelock is needed."""
+    """Without filelock, platformdirs, rich and tqdm all works; only pathspec is needed, where something is ignored."""
 
     def without(self, missing: Sequence[str], *words: str, seconds: float = 1.0) -> "subprocess.Popen[bytes]":
         """The program, on a terminal without these libraries; what takes longer than this many seconds is shown."""
@@ -209,8 +209,10 @@ class Libraries(WithStore):
         self.assertEqual((self.root / "back").read_bytes(), self.file.read_bytes())
 
     def test_the_one_that_is_needed(self) -> None:
-        done = self.without(("filelock",), "tree")
-        self.assertNotEqual(done.wait(60), 0)
+        self.as_program()
+        done = self.without(("pathspec",), "import", str(self.root), "/motor")
+        self.assertEqual(done.wait(60), 1)
+        self.assertIn(b"install python3-pathspec", os.read(self.terminal, 65536))
         os.close(self.terminal)
 
 

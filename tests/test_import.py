@@ -204,6 +204,16 @@ class LeftOut(WithFiles):
         self.assertIn("`vault wait c", refused["sentence"])
         self.assertIn("is queued behind", self.imported("/motor", "--yes", status=1)["sentence"])
 
+    def test_place_refused(self) -> None:
+        """A folder whose place can't be made is no working folder of it, and goes elsewhere."""
+        self.lay({"a/Teil 1": b"1"})
+        for number in range(64 - len(self.anna.names("/"))):
+            self.anna.make(f"/p{number}")
+        self.assertIn("/motor was not made. ", self.imported("/motor", "--yes", status=1)["sentence"])
+        self.assertEqual(sorted(path.name for path in (self.cad / ".vault").iterdir()), ["lock"])
+        self.imported("/p0/motor", "--yes")
+        self.assertEqual(self.got("/p0/motor"), self.files(self.cad))
+
 
 class Breaks(WithFiles):
     """It goes on where it was."""

@@ -2,7 +2,6 @@
 
 import tempfile
 import unittest
-from dataclasses import replace
 from pathlib import Path
 from typing import Callable, Dict, List
 
@@ -95,7 +94,7 @@ class OddReplies(unittest.TestCase):
         card = Card("0" * 64, 1, "Kolben", "anna", now())
         self.client.put("/e/b/p", card.spell(), "c1")
         self.assertEqual(Parts(self.client).set_note("c1", "done"), 1)
-        self.assertEqual(self.client.kept_drafts("c1"), {"/e/b/p": replace(card, note="done").spell()})
+        self.assertEqual(self.client.kept_drafts("c1"), {"/e/b/p": card._replace(note="done").spell()})
 
     def test_unknown_refusal(self) -> None:
         """It is shown as it is, whatever it says; one with no number of a refusal is no reply."""

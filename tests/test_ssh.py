@@ -3,6 +3,8 @@
 import os
 import re
 import subprocess
+import sys
+import time
 import unittest
 from pathlib import Path
 from typing import Dict, Tuple
@@ -112,6 +114,26 @@ class ThroughTheDoor(unittest.TestCase):
         self.assertEqual(self.came(), before + 1)
         self.vault("checkin", "c1")
         self.assertEqual(self.came(), before + 2)
+
+    def test_one_ssh_for_many_files(self) -> None:
+        """A whole folder goes in, is changed, put, checked in and got, each by one ssh, however many files it has."""
+        self.vault("hello", "anna@" + self.server_word)
+        self.vault("store", "set", f"file://{self.door.folder}/store")
+        work = self.door.folder / "work"
+        work.mkdir()
+        files = [work / f"Teil {number}.SLDPRT" for number in range(20)]
+        runs = (("import", str(work), "/engine/block", "--yes"), ("checkout", "w:/engine/block"), ("put", str(work)), ("status", str(work)),
+                ("checkin", str(work)), ("get", "/engine/block", "--to", str(self.door.folder / "other")))
+        for number, words in enumerate(runs):
+            if words[0] in ("import", "put"):
+                for file in files:
+                    file.write_text(f"{file.name}, bore {number}", "utf-8")
+            before, began = self.came(), time.monotonic()
+            self.vault(*words)
+            print(f"{words[0]} through ssh took {time.monotonic() - began:.2f} s", file=sys.stderr)
+            self.assertEqual(self.came(), before + 1, words)
+        self.assertEqual({path.name: path.read_bytes() for path in (self.door.folder / "other").glob("*.SLDPRT")},
+                         {path.name: path.read_bytes() for path in files})
 
     def test_sentences(self) -> None:
         """Whoever isn't let in hears so at once, in a sentence that says what to do."""

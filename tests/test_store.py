@@ -10,7 +10,6 @@ import tempfile
 import threading
 import time
 import unittest
-from dataclasses import replace
 from pathlib import Path
 from typing import Any, Callable, Dict, List, Type
 from unittest import mock
@@ -464,7 +463,7 @@ class ByHand(WithStore):
 
     def card(self, **other: Any) -> Card:
         """Makes a version by a card that was changed by hand."""
-        content = replace(self.put_version(), **other).spell()
+        content = self.put_version()._replace(**other).spell()
         claim = self.anna.checkout(["w:" + PART]).claim
         self.anna.put(PART, content, claim)
         self.anna.checkin(claim)

@@ -12,7 +12,6 @@ import subprocess
 import tempfile
 import time
 import unittest
-from dataclasses import replace
 from pathlib import Path
 from typing import Any, Dict, Iterator, Optional, Set
 from unittest import mock
@@ -57,7 +56,7 @@ class WithFiles(WithStore):
         store = self.parts.store()
         assert store is not None
         kept = store.add(self.file, self.parts.meter)
-        self.age(replace(self.first, sha256=kept.sha256), seconds)
+        self.age(self.first._replace(sha256=kept.sha256), seconds)
         return kept.sha256
 
 
@@ -112,7 +111,7 @@ class Sweep(WithFiles):
         ben = self.another()
         self.anna.make(ROD)
         put = ben.put(ROD, self.file, ben.client.checkout(["w:" + ROD]).claim)
-        self.age(replace(self.first, sha256=put.sha256))
+        self.age(self.first._replace(sha256=put.sha256))
         left, other = self.store / "incoming" / ("ab" * 16), self.store / "incoming" / "other"
         other.write_bytes(b"x")
         os.utime(other, (1000, 1000))
@@ -168,7 +167,7 @@ class Sweep(WithFiles):
     def test_what_cannot_be_removed(self) -> None:
         """A file that can't be removed is named, and stays; the others go, and are listed."""
         names = sorted(self.loose(b"loose %d" % number) for number in range(3))
-        place = self.path_of(replace(self.first, sha256=names[1]))
+        place = self.path_of(self.first._replace(sha256=names[1]))
         place.unlink()
         place.mkdir()
         left = [self.store / "incoming" / (name * 16) for name in ("ab", "cd", "ef")]
@@ -258,7 +257,7 @@ class Sweep(WithFiles):
         self.fill(b"draft")
         claim = self.put()
         draft = self.file_hash()
-        self.age(replace(self.first, sha256=draft))
+        self.age(self.first._replace(sha256=draft))
         folder = self.backup()
         self.anna.abandon(claim)
         self.write_much()
@@ -352,7 +351,7 @@ class Sweep(WithFiles):
         os.utime(elsewhere / old, (1000, 1000))
         self.assertIn("has a link in the place of its folder going", self.sweep(status=1))
         self.assertIn(old, self.entries())
-        self.path_of(replace(self.first, sha256=old)).unlink()
+        self.path_of(self.first._replace(sha256=old)).unlink()
         store = self.parts.store()
         assert store is not None
         self.assertIsNone(store.find(old))
@@ -406,7 +405,7 @@ class Aside(WithFiles):
         """A sweep brings back what the vault names, and what is young; it removes what is neither."""
         old, young = self.loose(b"old"), self.loose(b"young", YOUNG)
         for name in (self.first.sha256, old, young):
-            self.set_aside(replace(self.first, sha256=name))
+            self.set_aside(self.first._replace(sha256=name))
         with contextlib.redirect_stdout(io.StringIO()):
             swept = self.sweeper({self.first.sha256, self.second.sha256}).sweep(False, time.time())
         self.assertEqual({what: [each.sha256 for each in files] for what, files in swept.done.items()},

@@ -8,7 +8,6 @@ import zipfile
 from pathlib import Path
 from types import ModuleType
 
-import filelock
 import pathspec
 from designers import PART, WithServer
 from servers import TOP
@@ -50,8 +49,7 @@ class Wheel(WithServer):
             self.said(sys.executable, "-m", "venv", str(folder / "venv"))
             python = str(folder / "venv/bin/python3")
             site = Path(self.said(python, "-c", "import sysconfig; print(sysconfig.get_path('purelib'))").strip())
-            for library in (filelock, pathspec):
-                self.lay(site, library)
+            self.lay(site, pathspec)
             self.said(python, "-m", "pip", "install", "--no-index", "--quiet", str(wheel))
             self.assertIn("No broken requirements", self.said(python, "-m", "pip", "check"))
             vault = str(folder / "venv/bin/vault")

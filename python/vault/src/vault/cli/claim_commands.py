@@ -2,7 +2,6 @@
 
 import os
 import sys
-import threading
 import time
 from typing import Callable, List
 
@@ -31,9 +30,10 @@ SOON_SECONDS = 1.0
 
 def settle_folders(client: Client) -> None:
     """Settles which files are writable in this designer's working folders, if there are any."""
-    if client.folders():
+    folders = client.folders()
+    if folders:
         from vault.working import modes
-        modes.settle_folders(client)
+        modes.settle_folders(client, folders)
 
 
 def told_standing(standing: Standing, designer: str) -> Told:
@@ -283,6 +283,7 @@ def hold(client: Client, words: ItemsWords, output: Output) -> Told:
 def until_input_ends(asked: Callable[[], Standing]) -> None:
     """Waits for the end of standard input, and now and then asks the server something, so that it doesn't take the connection for dead. A
     thread reads, since not every system can wait for standard input and a time at once."""
+    import threading
     reader = threading.Thread(target=read_to_the_end, daemon=True)
     reader.start()
     while True:

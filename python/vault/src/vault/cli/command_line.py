@@ -2,15 +2,16 @@
 
 import argparse
 import re
-from typing import Any, Dict, List, NoReturn, Tuple
+from typing import Any, Dict, List, NoReturn, Tuple, Type
 
 from vault import __version__
 from vault.cli.commands import COMMANDS
 from vault.cli.words import BeforeWords, Given, StoreWords
 from vault.errors import MisusedError
-from vault.working.before import MOST_DAYS
+from vault.working.days import MOST_DAYS
 
 
+HELP_WIDTH = 80
 # What other programs call these.
 ALIASES = {"help": ("--help",), "ls": ("tree",), "log": ("history",), "whoami": ("vaults",)}
 
@@ -45,22 +46,39 @@ class Parser(argparse.ArgumentParser):
         raise MisusedError(f"{message}. `{self.prog} --help` shows the words.")
 
 
-def add(commands: Any, name: str, about: str, *arguments: Tuple[str, Dict[str, Any]]) -> None:
-    """Adds a command with its words."""
-    parser = commands.add_parser(name, help=about, description=about)
-    for word, options in arguments:
-        parser.add_argument(word, **options)
+class Narrow(argparse.HelpFormatter):
+    """Lays out help in a width that is known. To find out how wide the terminal is takes long, and most command lines ask for no help."""
+
+    def __init__(self, prog: str):
+        super().__init__(prog, width=HELP_WIDTH)
 
 
-def command_line() -> argparse.ArgumentParser:
-    """The words that the program knows."""
-    parser = Parser(prog="vault", description="The client of the design vault.",
+class Commands:
+    """The commands of a command line; if one is asked for, that one alone: to make all takes as long as a question to a server."""
+
+    def __init__(self, parser: Parser, only: str):
+        self.parsers = parser.add_subparsers(prog=parser.prog, dest="command", required=True, metavar="COMMAND")
+        self.only, self.layout = only, parser.formatter_class
+
+
+def add(commands: Commands, name: str, about: str, *arguments: Tuple[str, Dict[str, Any]]) -> None:
+    """Adds a command with its words, if it is wanted."""
+    if commands.only in ("", name):
+        parser = commands.parsers.add_parser(name, help=about, description=about, formatter_class=commands.layout)
+        for word, options in arguments:
+            parser.add_argument(word, **options)
+
+
+def command_line(only: str = "") -> argparse.ArgumentParser:
+    """The words that the program knows, or those for one command alone."""
+    layout: Type[argparse.HelpFormatter] = Narrow if only else argparse.HelpFormatter
+    parser = Parser(prog="vault", description="The client of the design vault.", formatter_class=layout,
                     epilog="A day with it is told in docs/TUTORIAL.md; the manual is vault(1).")
     parser.add_argument("--version", action="version", version="vault " + __version__)
     parser.add_argument("--as", dest="designer", metavar="NAME@HOST:PORT", help="who you are, in place of the last hello")
     parser.add_argument("--json", action="store_true", help="answers in JSON, one object on a line")
     parser.add_argument("--patience", type=seconds, default=30.0, metavar="SECONDS", help="how long a lost server is asked for (30)")
-    commands = parser.add_subparsers(dest="command", required=True, metavar="COMMAND")
+    commands = Commands(parser, only)
     add(commands, "hello", "remembers who you are, and where",
         ("who", {"metavar": "NAME@HOST:PORT", "help": "or, through ssh, NAME@ssh:HOST or NAME@ssh:USER@HOST:PORT; a vault's further addresses"
                  " stand behind commas, as anna@one:7070,two:7070"}),
@@ -100,7 +118,7 @@ EVERY = ("--all", {"action": "store_true", "help": "lists all, where else so man
 NAMED = ("--claim", {"default": "", "metavar": "CLAIM", "help": "the check-out that it belongs to"})
 
 
-def add_of_places(commands: Any) -> None:
+def add_of_places(commands: Commands) -> None:
     """Adds the commands that name a place."""
     add(commands, "tree", "shows the places beneath one", ("place", {"nargs": "?", "default": "/", "metavar": "PLACE"}), EVERY)
     add(commands, "make", "makes a place: a project, an assembly in it, or a part", PLACE, NAMED)
@@ -118,7 +136,7 @@ def add_of_places(commands: Any) -> None:
     add(commands, "history", "lists the versions of a part", PLACE, EVERY)
 
 
-def add_of_claims(commands: Any) -> None:
+def add_of_claims(commands: Commands) -> None:
     """Adds the commands that ask for a claim or name one."""
     add(commands, "checkout", "asks for a check-out of one to eight items", ITEMS)
     add(commands, "extend", "asks for more items for a check-out that is held", CLAIM, ITEMS)
@@ -143,19 +161,28 @@ def add_of_claims(commands: Any) -> None:
     add(commands, "forget", "forgets a check-out that is gone, and its copies", CLAIM)
 
 
-def meant(given: List[str]) -> List[str]:
-    """A command line with the word of this program in the place of one that other programs have for the same."""
+def place_of_command(given: List[str]) -> int:
+    """Where the command stands among some words: the first that is neither an option nor what an option, perhaps a shortened one, is given."""
     passed = False
     for number, word in enumerate(given):
         if word[:1] != "-" and not passed:
-            return [*given[:number], *ALIASES.get(word, (word,)), *given[number + 1:]]
-        passed = word in ("--as", "--patience")
-    return given
+            return number
+        passed = len(word) > 2 and any(option.startswith(word) for option in ("--as", "--patience"))
+    return len(given)
+
+
+def meant(given: List[str]) -> List[str]:
+    """A command line with the word of this program in the place of one that other programs have for the same."""
+    at = place_of_command(given)
+    return [*given[:at], *(each for word in given[at:at + 1] for each in ALIASES.get(word, (word,))), *given[at + 1:]]
 
 
 def read_words(given: List[str]) -> Given:
     """What a command line asks for."""
-    read = command_line().parse_args(meant(given))
+    line = meant(given)
+    command = "".join(line[place_of_command(line):][:1])
+    helped = any(word == "-h" or (len(word) > 2 and "--help".startswith(word)) for word in line)
+    read = command_line(command if command in COMMANDS and not helped else "").parse_args(line)
     words = COMMANDS[read.command].words.of(read)
     if isinstance(words, StoreWords) and (words.what in ("set", "confirm")) != bool(words.address):
         raise MisusedError("`vault store` shows the store; `vault store set ADDRESS` and `vault store confirm ADDRESS` want an address.")

@@ -2,13 +2,15 @@
 command needs is loaded: that takes longer than a question to a server."""
 
 from importlib import import_module
-from typing import Dict, Type
+from typing import TYPE_CHECKING, Dict, Type
 
 from vault.cli.output import Output, Told
 from vault.cli.words import (AddWords, BeforeWords, CheckinWords, ClaimWords, DraftsWords, DraftWords, ExtendWords, GetWords, GiveWords,
                              HelloWords, ImportWords, ItemsWords, MakeWords, MineWords, NoteWords, NoWords, PlaceWords, PutWords, StatusWords,
                              StoreWords, WaitWords, Words)
-from vault.client import Client
+
+if TYPE_CHECKING:
+    from vault.client import Client
 
 
 class Command:
@@ -17,7 +19,7 @@ class Command:
     def __init__(self, words: Type[Words], module: str, function: str):
         self.words, self.module, self.function = words, module, function
 
-    def told(self, client: Client, words: Words, output: Output) -> Told:
+    def told(self, client: "Client", words: Words, output: Output) -> Told:
         """What came of the command, said with its words."""
         assert isinstance(words, self.words)
         told: Told = getattr(import_module(f"vault.cli.{self.module}"), self.function)(client, words, output)

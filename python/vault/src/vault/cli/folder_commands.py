@@ -2,10 +2,9 @@
 
 import os
 from pathlib import Path
-from typing import Any, Dict, List, Tuple
+from typing import TYPE_CHECKING, Any, Dict, List, Tuple
 
 from vault.cli.counting import some_of
-from vault.cli.import_commands import add_folders
 from vault.cli.output import Output, Told
 from vault.cli.words import AddWords, BeforeWords, CheckinWords, GetWords, PutWords, StatusWords
 from vault.client import Client
@@ -14,15 +13,16 @@ from vault.files.ignoring import ignored_in
 from vault.files.names import usable, why_not
 from vault.files.text import quoted, shown
 from vault.store.parts import Parts, parts_of_program
-from vault.working import Working
+from vault.working.adding import Adding
 from vault.working.before import Before, bring_back
 from vault.working.folder import Folder, find_folder, read_folder
 from vault.working.found import State
 from vault.working.modes import settle_folders
 from vault.working.opening import folder_for
-from vault.working.renamed import Renamed
-from vault.working.told import Done
 
+if TYPE_CHECKING:
+    from vault.working.renamed import Renamed
+    from vault.working.told import Done
 
 # What is to be known before a place is made.
 STAYS = "A place stays for good: no command removes one."
@@ -30,10 +30,11 @@ STAYS = "A place stays for good: no command removes one."
 
 def get_folder(parts: Parts, words: GetWords, to: str, output: Output) -> Told:
     """Brings a working folder up to the vault."""
+    from vault.working.getting import Getting
     place, folder = words.place, folder_for(parts, words.place, Path(to))
     with folder.locked():
         folder.keep_days, folder.writable = words.keep_days or folder.keep_days, words.writable or folder.writable
-        done = Working(parts, folder).get()
+        done = Getting(parts, folder).get()
         count = len(folder.files)
     tell_left(done, words.all, output)
     tell_saved_aside(folder, to, done.saved_aside, output)
@@ -62,9 +63,10 @@ def put_folder(client: Client, words: PutWords, output: Output) -> Told:
     if not os.path.isdir(words.place):
         raise MisusedError(f"{words.place} is no folder, so nothing was put. `vault put PLACE FILE` puts one file as the draft of a part, and"
                            " `vault put FOLDER` the changed files of a working folder.")
+    from vault.working.putting import Putting
     folder = whole_folder(words.place)
     with folder.locked():
-        done = Working(parts_of_program(client, output.meter), folder).put(words.claim)
+        done = Putting(parts_of_program(client, output.meter), folder).put(words.claim)
     tell_left(done, words.all, output)
     put_already = set(done.drafts)
     lines = some_of([(shown(name), f"is a draft of {folder.files[name].place} in {folder.files[name].claim}"
@@ -80,10 +82,11 @@ def put_folder(client: Client, words: PutWords, output: Output) -> Told:
 
 def checkin_folder(client: Client, words: CheckinWords, output: Output) -> Told:
     """Puts the changed files of a working folder, and checks them in."""
+    from vault.working.putting import Putting
     folder = whole_folder(words.claim)
     with folder.locked():
-        done = Working(parts_of_program(client, output.meter), folder).checkin(words.note, in_parts=words.in_parts)
-    settle_folders(client)
+        done = Putting(parts_of_program(client, output.meter), folder).checkin(words.note, in_parts=words.in_parts)
+    settle_folders(client, client.folders())
     tell_left(done, words.all, output)
     parts = f" It isn't one change: it took {len(done.claims)} check-outs." if words.in_parts and len(done.claims) > 1 else ""
     return done.checked_in() + parts, {**fields_of(done), "claims": done.claims, "versions": done.versions}
@@ -91,11 +94,12 @@ def checkin_folder(client: Client, words: CheckinWords, output: Output) -> Told:
 
 def status(client: Client, words: StatusWords, output: Output) -> Told:
     """Shows how the files of a working folder stand, or of a part of it."""
+    from vault.working.renamed import Renamed
     from vault.working.scope import scope_of
     folder = find_folder(Path(words.folder))
     with folder.locked():
         scope = scope_of(folder, words.folder)
-        working, others = Working(Parts(client), folder), [name for name in not_ignored(folder) if scope.has(name)]
+        working, others = Adding(Parts(client), folder), [name for name in not_ignored(folder) if scope.has(name)]
         look = working.look()
         files, new = [state for state in look.files if scope.has(state.file)], {each: look.new[each] for each in look.new if scope.has_place(each)}
         saved_aside = [each for each in look.saved_aside if scope.has_place(each.place)]
@@ -107,7 +111,7 @@ def status(client: Client, words: StatusWords, output: Output) -> Told:
         renamed = Renamed(folder)
         lines += [other_in_words(working, renamed, words.folder, name) for name in others]
         told = some_of(lines, words.all) + [saved_aside_in_words(folder, words.folder, each) for each in saved_aside]
-    fields = {"place": scope.place or folder.place, "files": [vars(state) for state in files], "others": others,
+    fields = {"place": scope.place or folder.place, "files": [state._asdict() for state in files], "others": others,
               "saved_aside": [each.fields() for each in saved_aside],
               "new": [{"place": place, "version": number} for place, number in new.items()],
               "renamed": {name: before for name in others if (before := renamed.renamed(name))}}
@@ -121,7 +125,7 @@ def not_ignored(folder: Folder) -> List[str]:
     return [name for name in others if ignored is not None and not ignored(name)]
 
 
-def other_in_words(working: Working, renamed: Renamed, word: str, name: str) -> Tuple[str, str]:
+def other_in_words(working: Adding, renamed: "Renamed", word: str, name: str) -> Tuple[str, str]:
     """What becomes of a file that belongs to no part, or of a folder of no assembly, for whoever named the working folder, or a folder in it,
     by a word: its name, and what is said of it."""
     folder = working.folder
@@ -208,6 +212,7 @@ def tell_saved_aside(folder: Folder, word: str, found: List[Before], output: Out
 def add(client: Client, words: AddWords, output: Output) -> Told:
     """Makes parts of files in a working folder, and assemblies of folders. What has a place is passed over; what can't be added is told, and the
     others are added all the same."""
+    from vault.cli.import_commands import add_folders
     made: Dict[str, str] = {}
     left: List[Tuple[str, str]] = []
     refused: List[VaultError] = []
@@ -255,7 +260,7 @@ def add_one(client: Client, path: Path) -> Tuple[str, str]:
     """The place that was made of a file, or else why it is passed over."""
     folder = find_folder(path.parent)
     with folder.locked():
-        name, working = path.relative_to(folder.path).as_posix(), Working(Parts(client), folder)
+        name, working = path.relative_to(folder.path).as_posix(), Adding(Parts(client), folder)
         if name in folder.folders:
             return "", f"is {folder.folders[name]} already"
         tracked = folder.tracked(name, folder.alike())
@@ -270,13 +275,13 @@ def added(made: Dict[str, str], every: bool) -> List[str]:
     return some_of([(shown(file), f"is {place}.") for file, place in made.items()], every)
 
 
-def tell_left(done: Done, every: bool, output: Output) -> None:
+def tell_left(done: "Done", every: bool, output: Output) -> None:
     """Says which files were left, and why, and what else is to be known of some."""
     for line in some_of([(shown(name), f"{reason}.") for name, reason in done.left + done.told], every):
         output.notice(line)
 
 
-def fields_of(done: Done) -> Dict[str, Any]:
+def fields_of(done: "Done") -> Dict[str, Any]:
     """What was done, for --json."""
     return {"files": done.files, "drafts": done.drafts, "left": [{"file": name, "reason": reason} for name, reason in done.left]}
 

@@ -84,7 +84,7 @@ def folder_to_import(parts: Parts, place: str, path: Path) -> Folder:
     outer = next((above for above in path.parents if read_folder(above) is not None), None)
     if folder is None and outer is not None:
         raise MisusedError(f"{path} stands in the working folder {outer}. `vault add {quoted(str(path))}` makes an assembly of it.")
-    return folder or Folder(path, place, server_of(parts))
+    return folder or Folder(path, place, server_of(parts.client))
 
 
 def locked_anew(folder: Folder) -> Any:

@@ -18,9 +18,9 @@ from vault.protocol.grammar import NAME, PLACE
 # Which of a command's words names a place.
 PLACED = (PlaceWords, MakeWords, PutWords, GetWords, DraftWords, ImportWords)
 # What a working folder remembers first.
-SERVER = re.compile(r'^\{"form": "[^"]*", "place": "[^"]*", "server": "([^"\\]*)"')
+SERVER = r'\{"form": "[^"]*", "place": "[^"]*", "server": "([^"\\]*)"'
 HEAD = 4096
-IN_VAULT = re.compile(r"(?P<vault>%s):(?P<place>%s)" % (NAME.pattern, PLACE.pattern))
+IN_VAULT = r"(?P<vault>%s):(?P<place>%s)" % (NAME.pattern, PLACE.pattern)
 
 
 class Known(NamedTuple):
@@ -91,7 +91,7 @@ class Places:
 
     def place_of(self, word: str) -> str:
         """The place that a word is: itself, or behind a vault's name, or the one that a path in a working folder has."""
-        found = IN_VAULT.fullmatch(word)
+        found = re.fullmatch(IN_VAULT, word)
         if found is not None and not os.path.lexists(word):
             self.who = next((each.who for each in known_vaults() if each.name == found["vault"]), "")
             if not self.who:
@@ -161,7 +161,7 @@ def at_folder(path: Path, fallback: Optional[str]) -> Optional[str]:
         return None
     try:
         with open(folder / ".vault" / "folder.json", encoding="utf-8", errors="replace") as file:
-            found = SERVER.match(re.sub(r"\n *", " ", file.read(HEAD)).replace("{ ", "{", 1))
+            found = re.match(SERVER, re.sub(r"\n *", " ", file.read(HEAD)).replace("{ ", "{", 1))
     except OSError:
         return None
     for who in [*([fallback] if fallback else []), *(each.who for each in known_vaults())]:

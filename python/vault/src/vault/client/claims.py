@@ -2,7 +2,6 @@
 
 import contextlib
 from collections import Counter
-from dataclasses import replace
 from typing import Dict, List, Optional, Sequence, Set, Tuple
 
 from vault.client.memory import Claim, Command, Draft, by_number
@@ -147,7 +146,7 @@ class ClaimsClient(Session):
                 raise reply.refusal()
             standing = standing_of(reply)
             with contextlib.suppress(VaultError):
-                return replace(standing, before=tuple(self.line.of([standing.behind] if standing.behind else []) or []))
+                return standing._replace(before=tuple(self.line.of([standing.behind] if standing.behind else []) or []))
         return standing
 
     def hold_stands(self, claim: str) -> Standing:
@@ -202,8 +201,8 @@ class ClaimsClient(Session):
         now = [holder for holder in line or [] if holder.claim == standing.claim]
         if line is None or not now:
             return standing
-        return replace(standing, held=now[0].held, behind=now[0].behind, before=tuple(chain(line, standing.claim)),
-                       ring=tuple(ring(line, standing.claim)))
+        return standing._replace(held=now[0].held, behind=now[0].behind, before=tuple(chain(line, standing.claim)),
+                                 ring=tuple(ring(line, standing.claim)))
 
     def _take_up(self, named: Sequence[str]) -> None:
         """Remembers check-outs that are this designer's."""
@@ -247,7 +246,7 @@ class ClaimsClient(Session):
         """How a check-out stands, and whether it is another designer's."""
         standing = self._standing(claim)
         code = self.link.read(whose(claim)).code
-        return replace(standing, gone=standing.gone or code == GONE, anothers=code == ANOTHERS)
+        return standing._replace(gone=standing.gone or code == GONE, anothers=code == ANOTHERS)
 
 
 def standing_in(named: Dict[str, Holder], claim: str, designer: str, drafts: Optional[Reply]) -> Standing:

@@ -3,14 +3,11 @@
 import contextlib
 import json
 import time
-from dataclasses import asdict, dataclass, field
 from pathlib import Path
-from typing import Any, Callable, Dict, Iterator, List, Optional, Sequence, Tuple
-
-from filelock import FileLock
+from typing import Any, Callable, Dict, Iterator, List, NamedTuple, Optional, Sequence, Tuple
 
 from vault.errors import VaultError
-from vault.files.locks import taken
+from vault.files.locks import lock_at
 from vault.files.whole import write_whole
 from vault.protocol.replies import Reply, claim_in
 from vault.protocol.standing import Holder
@@ -18,8 +15,7 @@ from vault.protocol.standing import Holder
 KNOWN = 1024
 
 
-@dataclass
-class Draft:
+class Draft(NamedTuple):
     """A copy of what was sent for a part, kept until it is a version."""
 
     content: str
@@ -27,17 +23,22 @@ class Draft:
     versions: Optional[int]
 
 
-@dataclass
 class Claim:
-    """A check-out that this client asked for, and to whom it was given since."""
+    """A check-out that this client asked for, with the drafts of it that were sent from here, and to whom it was given since."""
 
-    items: List[str]
-    drafts: Dict[str, Draft] = field(default_factory=dict)
-    given: str = ""
+    def __init__(self, items: List[str], drafts: Optional[Dict[str, Draft]] = None, given: str = ""):
+        self.items, self.drafts, self.given = items, drafts or {}, given
+
+    def copy(self) -> "Claim":
+        """The check-out as it is now."""
+        return Claim(list(self.items), dict(self.drafts), self.given)
+
+    def fields(self) -> Dict[str, Any]:
+        """The check-out as it is kept."""
+        return {"items": self.items, "drafts": fields_of(self.drafts), "given": self.given}
 
 
-@dataclass
-class Known:
+class Known(NamedTuple):
     """A claim that this client has heard of: whose it was, what it had, and when the client first heard of it."""
 
     owner: str
@@ -45,28 +46,25 @@ class Known:
     since: float
 
 
-@dataclass
 class Command:
     """A command that changes the vault, as it is kept while it is under way; with a check-in the drafts that the server had before, if it
     tells them; with a draft the hash of the one that it is to replace, empty for none, if the server tells that."""
 
-    kind: str
-    line: str
-    claim: str = ""
-    place: str = ""
-    items: List[str] = field(default_factory=list)
-    last_number: int = 0
-    since: float = 0.0
-    second: str = ""
-    drafts: Optional[Dict[str, Draft]] = None
-    replaces: Optional[str] = None
+    def __init__(self, kind: str, line: str, claim: str = "", place: str = "", items: Sequence[str] = (), last_number: int = 0,
+                 since: float = 0.0, second: str = "", drafts: Optional[Dict[str, Draft]] = None, replaces: Optional[str] = None):
+        self.kind, self.line, self.claim, self.place, self.items = kind, line, claim, place, list(items)
+        self.last_number, self.since, self.second, self.drafts, self.replaces = last_number, since, second, drafts, replaces
+
+    def fields(self) -> Dict[str, Any]:
+        """The command as it is kept."""
+        return {**vars(self), "drafts": None if self.drafts is None else fields_of(self.drafts)}
 
 
 class Memory:
     """The client's own file for one designer at one server; every change of it is on disk before the next step."""
 
     def __init__(self, path: Path):
-        self.path = path
+        self.path, self.saved = path, b""
         self.last_number = 0
         self.claims: Dict[str, Claim] = {}
         self.under_way: Optional[Command] = None
@@ -79,10 +77,10 @@ class Memory:
     def locked(self, waiting: Callable[[], None]) -> Iterator[None]:
         """Keeps other clients of this designer on this machine away, and reads the file anew."""
         self.path.parent.mkdir(mode=0o700, parents=True, exist_ok=True)
-        lock = FileLock(self.path.with_name(self.path.name + ".lock"))
-        if not taken(lock):
+        lock = lock_at(self.path.with_name(self.path.name + ".lock"))
+        if not lock.take():
             waiting()
-            lock.acquire()
+            lock.take(wait=True)
         try:
             self._load()
             yield
@@ -91,7 +89,8 @@ class Memory:
 
     def _load(self) -> None:
         try:
-            kept = json.loads(self.path.read_text("utf-8"))
+            self.saved = self.path.read_bytes()
+            kept = json.loads(self.saved.decode("utf-8"))
             self.last_number = kept["last_number"]
             self.store, self.way, self.server = kept.get("store", ""), kept.get("way", ""), kept.get("server", "")
             self.folders = list(kept.get("folders", []))
@@ -104,23 +103,27 @@ class Memory:
         except FileNotFoundError:
             self.last_number, self.claims, self.under_way, self.known, self.folders = 0, {}, None, {}, []
             self.store = self.way = self.server = ""
+            self.saved = b""
         except (ValueError, KeyError, TypeError, AttributeError) as error:
             raise VaultError(f"The file {self.path} can't be read. It keeps copies of drafts, so move it away"
                              " rather than delete it, and run the command again.") from error
 
-    def save(self) -> None:
-        """Puts the file on disk, whole or not at all."""
+    def save(self, at_once: bool = True) -> None:
+        """Puts the file on disk, whole or not at all, if it isn't there as it is already."""
         kept = {
             "last_number": self.last_number,
             "store": self.store,
             "way": self.way,
             "server": self.server,
             "folders": self.folders,
-            "claims": {name: asdict(claim) for name, claim in self.claims.items()},
-            "under_way": asdict(self.under_way) if self.under_way else None,
-            "known": {name: asdict(known) for name, known in self.known.items()},
+            "claims": {name: claim.fields() for name, claim in self.claims.items()},
+            "under_way": self.under_way.fields() if self.under_way else None,
+            "known": {name: known._asdict() for name, known in self.known.items()},
         }
-        write_whole(self.path, json.dumps(kept, indent=1).encode("utf-8"))
+        content = json.dumps(kept, indent=1).encode("utf-8")
+        if content != self.saved:
+            write_whole(self.path, content, at_once=at_once)
+            self.saved = content
 
     def confirmed_elsewhere(self, designer: str, address: str) -> Optional[str]:
         """This machine's own way to a store that a designer has confirmed at another vault, which is empty where that is its address; nothing if
@@ -145,9 +148,9 @@ class Memory:
             raise
 
     def end(self) -> None:
-        """Forgets the command under way, since what became of it is known."""
+        """Forgets the command under way, since what became of it is known. If a power cut undoes that, it is found out once more."""
         self.under_way = None
-        self.save()
+        self.save(at_once=False)
 
     def saw(self, reply: Reply) -> None:
         """Keeps the greatest number of a check-out that the server ever named."""
@@ -168,11 +171,11 @@ class Memory:
         self.known = latest
         return changed
 
-    def remember(self, command: Command, reply: Reply) -> None:
-        """Keeps what a command that was done means for the check-outs."""
+    def remember(self, command: Command, reply: Reply, owner: str) -> None:
+        """Keeps what a command that was done means for the check-outs of its designer."""
         if command.kind == "checkout":
             self.claims[claim_in(reply)] = Claim(command.items)
-            self.known[claim_in(reply)] = Known("", command.items, time.time())
+            self.known[claim_in(reply)] = Known(owner, command.items, time.time())
         elif command.kind == "extend" and command.claim in self.claims:
             self.claims[command.claim].items += command.items
         elif command.kind in ("checkin", "abandon"):
@@ -187,7 +190,7 @@ class Memory:
         if claim is None or not claim.drafts:
             return None
         path = self.path.with_name(f"{self.path.name}.{name}.{time.time_ns()}")
-        write_whole(path, json.dumps(asdict(claim), indent=1).encode("utf-8"))
+        write_whole(path, json.dumps(claim.fields(), indent=1).encode("utf-8"))
         return path
 
     def _given(self, claim: str, receiver: str) -> None:
@@ -196,6 +199,11 @@ class Memory:
             self.claims[claim].given = receiver
         else:
             del self.claims[claim]
+
+
+def fields_of(drafts: Dict[str, Draft]) -> Dict[str, Dict[str, Any]]:
+    """Drafts as they are kept, by place."""
+    return {place: draft._asdict() for place, draft in drafts.items()}
 
 
 def drafts_of(kept: Dict[str, Dict[str, Any]]) -> Dict[str, Draft]:

@@ -1,6 +1,5 @@
 """What a designer does with parts: drafts are saved and read, and versions are read."""
 
-from copy import deepcopy
 from typing import Dict, Iterator, List, Optional, Sequence, Tuple
 
 from vault.client.claims import ClaimsClient
@@ -33,7 +32,8 @@ class PartsClient(ClaimsClient):
             versions = number_in(counted, 1) if counted.ok else None
             line = f"save {claim} {place} {content.hex() or '-'}"
             command = Command("put", line, claim, place, replaces=hash_of_draft(there) if there.ok or there.code == NO_VERSION else None)
-            before = deepcopy(self.memory.claims.get(claim))
+            before = self.memory.claims.get(claim)
+            before = before.copy() if before is not None else None
             kept = self.memory.claims.setdefault(claim, Claim([]))
             earlier = kept.drafts[place].source if place in kept.drafts else ""
             if keep:

@@ -1,10 +1,10 @@
 """What became of a command whose answer was lost: found out by questions that change nothing."""
 
-import hashlib
 from typing import Callable, List, Optional, Sequence, Tuple
 
 from vault.client.memory import Claim, Command, Memory, command_word
 from vault.errors import NotKnownError, RefusedError, VaultError
+from vault.files.hashes import sha256_of
 from vault.protocol.connection import Link
 from vault.protocol.grammar import ANOTHERS, GONE, IS_THERE, ITEMS, NO_PART, NO_VERSION, PLACE, QUEUED, TOO_MANY_ITEMS, UNKNOWN_COMMAND
 from vault.protocol.queue import Line
@@ -60,7 +60,7 @@ class Recovery:
         self.memory.saw(reply)
         if command.kind == "checkout":
             self.put_aside(claim_in(reply))
-        self.memory.remember(command, reply)
+        self.memory.remember(command, reply, self.link.designer)
         return f"Your earlier `{command_word(command)}` was done.", reply
 
     def find_out(self, command: Command) -> Optional[Reply]:
@@ -260,7 +260,7 @@ class Recovery:
 
 def hash_of_draft(reply: Reply) -> str:
     """The hash of the draft in a reply, or nothing if there is none."""
-    return "" if reply.code == NO_VERSION else hashlib.sha256(content_in(reply)).hexdigest()
+    return "" if reply.code == NO_VERSION else sha256_of(content_in(reply))
 
 
 def number_of(holder: Holder) -> int:

@@ -12,6 +12,7 @@ from vault.client.limits import limit_in_words
 from vault.client.memory import Command, Memory, command_word
 from vault.client.recovery import SENT_AGAIN, NotYetError, Recovery, not_known
 from vault.errors import LostError, RefusedError, UnreachableError, VaultError
+from vault.files.hashes import sha256_of
 from vault.files.own_folders import state_folder
 from vault.files.system import may_be_named
 from vault.protocol.address import Address, address_word
@@ -125,7 +126,7 @@ class Session:
         if reply.ok and command.kind == "checkout":
             self.recovery.put_aside(claim_in(reply))
         if reply.ok:
-            self.memory.remember(command, reply)
+            self.memory.remember(command, reply, self.designer)
         self.memory.end()
         if not reply.ok:
             raise self._limit(reply, command) or self._refusal(reply, command.place, command.claim)
@@ -237,6 +238,5 @@ def memory_name(designer: str, servers: Sequence[Address]) -> str:
     """The name of the client's own file for a designer at a vault's servers, in whatever order."""
     name = f"{designer}@" + ",".join(sorted(f"{host}:{port}" for host, port in servers))
     if len(servers) > 1 and len(name) > NAME_LENGTH:
-        import hashlib
-        name = name[:NAME_LENGTH // 2] + hashlib.sha256(name.encode("utf-8")).hexdigest()
+        name = name[:NAME_LENGTH // 2] + sha256_of(name.encode("utf-8"))
     return may_be_named(name) + ".json"

@@ -13,11 +13,6 @@ from typing import Callable
 
 from vault.errors import VaultError
 
-try:
-    import fcntl
-except ImportError:
-    fcntl = None  # type: ignore[assignment]
-
 WINDOWS = os.name == "nt"
 # How a system says that a program holds a file open.
 HELD = (errno.EBUSY, errno.ETXTBSY) + ((errno.EACCES, errno.EPERM) if WINDOWS else ())
@@ -45,20 +40,6 @@ def sync_folder(folder: Path) -> None:
         os.fsync(descriptor)
     finally:
         os.close(descriptor)
-
-
-def refusal_of_lock(path: Path) -> str:
-    """Why the system gives no lock on a file, if for any other reason than that another has it. Some shares say that by EACCES."""
-    if fcntl is None:
-        return ""
-    with open(path, "ab") as file:
-        try:
-            fcntl.flock(file, fcntl.LOCK_EX | fcntl.LOCK_NB)
-        except (BlockingIOError, PermissionError):
-            return ""
-        except OSError as error:
-            return error.strerror or str(error)
-    return ""
 
 
 def patiently(action: Callable[[], None], path: Path) -> None:

@@ -1,21 +1,24 @@
 """Bytes on their way between files, always through their SHA-256."""
 
-import hashlib
 import itertools
 import os
 import stat
 import time
-from concurrent.futures import Future, ThreadPoolExecutor
-from contextlib import AbstractContextManager, contextmanager
-from dataclasses import dataclass
+from contextlib import AbstractContextManager, ExitStack, contextmanager
 from pathlib import Path
-from typing import Any, Callable, Iterator, Optional, Tuple
+from typing import TYPE_CHECKING, Any, Callable, Iterator, NamedTuple, Optional, Tuple
 
 from vault.errors import MisusedError, VaultError
+from vault.files.hashes import new_hash
 from vault.files.looks import same, wait_until_sure
 from vault.files.system import AT_ONCE, NO_LINK_FOLLOWED
 
-PIECE = 1 << 20
+if TYPE_CHECKING:
+    from concurrent.futures import Future, ThreadPoolExecutor
+
+FIRST_PIECE, PIECE = 1 << 16, 1 << 20
+# From which piece on a file is long.
+LONG = 2
 TRIES = 3
 Moved = Callable[[int], None]
 # A meter shows how far something is. It is given what it is and how many bytes it has, and, while it stands, how many more were moved.
@@ -37,26 +40,45 @@ def no_meter(_what: str, _size: int) -> Iterator[Moved]:
 
 
 def copy_through_hash(source: Any, target: Any, moved: Moved, most: Optional[int] = None) -> Tuple[str, int]:
-    """Copies bytes from an unbuffered file to the end, and answers their SHA-256 and how many they are. While a piece is hashed it is
-    written, and the next one is read. Of a source that has more than it may have, the piece that shows this is the last one."""
-    digest, size = hashlib.sha256(), 0
-    pieces = (memoryview(bytearray(PIECE)), memoryview(bytearray(PIECE)))
-    with ThreadPoolExecutor(1) as beside:
+    """Copies bytes from an unbuffered file to the end, and answers their SHA-256 and how many they are. Of a source that has more than it may
+    have, the piece that shows this is the last one. Of a long one, a piece is hashed while it is written, and the next one is read."""
+    digest, size = new_hash(), 0
+    with ExitStack() as pools:
+        beside: Optional["ThreadPoolExecutor"] = None
         hashed: Optional["Future[None]"] = None
-        for piece in itertools.cycle(pieces):
+        for number, piece in enumerate(room()):
             length = source.readinto(piece)
             if hashed is not None:
                 hashed.result()
             if not length:
                 return digest.hexdigest(), size
-            hashed = beside.submit(digest.update, piece[:length])
+            if number < LONG:
+                digest.update(piece[:length])
+            else:
+                beside = beside or pools.enter_context(one_thread())
+                hashed = beside.submit(digest.update, piece[:length])
             target.write(piece[:length])
             size += length
             moved(length)
             if most is not None and size > most:
-                hashed.result()
+                if hashed is not None:
+                    hashed.result()
                 return digest.hexdigest(), size
-    raise AssertionError("a cycle has no end")
+    raise AssertionError("there is always room")
+
+
+def room() -> Iterator[memoryview]:
+    """Room for one piece after the other: little for the first, since to make much takes longer than to read a short file, and then by turns."""
+    yield memoryview(bytearray(FIRST_PIECE))
+    one = memoryview(bytearray(PIECE))
+    yield one
+    yield from itertools.cycle((memoryview(bytearray(PIECE)), one))
+
+
+def one_thread() -> "ThreadPoolExecutor":
+    """A thread that does something beside. The library is loaded once there is something: most files are short."""
+    from concurrent.futures import ThreadPoolExecutor
+    return ThreadPoolExecutor(1)
 
 
 class Nowhere:
@@ -85,8 +107,7 @@ def hash_of(path: Path, moved: Moved = lambda _bytes: None) -> Tuple[str, int]:
         return copy_through_hash(source, Nowhere(), moved)
 
 
-@dataclass(frozen=True)
-class Read:
+class Read(NamedTuple):
     """What was read of a file, how it looked before and behind, and when it was looked at first."""
 
     sha256: str

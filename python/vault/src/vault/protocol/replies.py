@@ -1,8 +1,7 @@
 """The server's lines, taken apart, and the sentences for its refusals."""
 
 import re
-from dataclasses import dataclass
-from typing import Dict, List, Optional, Tuple
+from typing import Dict, List, NamedTuple, Optional, Tuple
 
 from vault.errors import LostError, NotUnderstoodError, RefusedError
 from vault.protocol.grammar import CLAIM, CODE, CONTENT_BYTES, COVERED, NAME, QUEUED, SHOWN
@@ -35,8 +34,7 @@ SENTENCES: Dict[int, str] = {
 }
 
 
-@dataclass(frozen=True)
-class Reply:
+class Reply(NamedTuple):
     """One line of the server, taken apart."""
 
     ok: bool

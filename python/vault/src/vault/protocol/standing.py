@@ -1,13 +1,11 @@
 """Claims and how they stand, in words and for --json."""
 
-from dataclasses import dataclass
-from typing import Any, Dict, Optional, Tuple
+from typing import Any, Dict, NamedTuple, Optional, Tuple
 
 from vault.protocol.grammar import CHECKOUT, under
 
 
-@dataclass(frozen=True)
-class Holder:
+class Holder(NamedTuple):
     """A claim with whose it is, whether it is held or queued behind another, and what it asked for."""
 
     claim: str
@@ -40,8 +38,7 @@ def who_does(owner: str, what: str, designer: str) -> str:
     return f"you {what}" if owner == designer else f"{owner} {what}s"
 
 
-@dataclass(frozen=True)
-class Wait:
+class Wait(NamedTuple):
     """A claim that another one waits for, by the place of the first at which they meet."""
 
     before: Holder
@@ -60,8 +57,7 @@ class Wait:
                 f" {who_does(self.waiting.owner, 'wait', designer)}")
 
 
-@dataclass(frozen=True)
-class Standing:
+class Standing(NamedTuple):
     """How a claim stands: held, or queued behind another, or gone if it is neither; and whether it is known to be another designer's. As
     far as the server says, for a queued claim: each claim before it that it waits for in turn, and where designers wait for each other in
     a ring; for a check-out of one's own: the parts that it has drafts of."""

@@ -5,12 +5,12 @@ program, an option or a connection of its own.
 """
 
 import re
-from dataclasses import dataclass
 from pathlib import Path
-from typing import Union
+from typing import NamedTuple, Union
 from urllib.parse import unquote, urlsplit
 
 from vault.errors import MisusedError
+from vault.files.system import WINDOWS
 from vault.files.text import CONTROL
 from vault.protocol.grammar import CONTENT_BYTES
 
@@ -18,16 +18,14 @@ REMOTE = re.compile(r"[A-Za-z0-9_][A-Za-z0-9_-]{0,63}")
 FORMS = "Write a folder as file:///srv/vault-store, or a remote of your rclone as rclone:NAME:PATH, with a NAME of letters, digits, _ and -."
 
 
-@dataclass(frozen=True)
-class FolderAddress:
+class FolderAddress(NamedTuple):
     """A folder, on this machine or on a share."""
 
     text: str
     folder: Path
 
 
-@dataclass(frozen=True)
-class RcloneAddress:
+class RcloneAddress(NamedTuple):
     """A path on a remote that the client's own configuration of rclone names."""
 
     text: str
@@ -61,15 +59,20 @@ def read_way(word: str) -> Address:
 
 def folder_address(text: str) -> FolderAddress:
     """A folder by its whole path."""
-    # not at the start of each command: it loads the library's HTTP client
-    from urllib.request import url2pathname
-
     parts = urlsplit(text)
-    folder = Path(url2pathname(parts.path))
+    folder = Path(path_in(parts.path))
     plain = not (parts.query or parts.fragment or parts.netloc) and CONTROL.search(unquote(parts.path)) is None
     if not plain or not folder.is_absolute() or ".." in folder.parts or len(folder.parts) < 2:
         raise MisusedError(f"`{text}` names no folder by its whole path. {FORMS}")
     return FolderAddress(text, folder)
+
+
+def path_in(path: str) -> str:
+    """The path on this system that stands in an address."""
+    if not WINDOWS:
+        return unquote(path)
+    from urllib.request import url2pathname  # it loads the library's HTTP client
+    return url2pathname(path)
 
 
 def rclone_address(text: str) -> RcloneAddress:

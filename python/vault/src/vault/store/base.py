@@ -1,8 +1,7 @@
 """Stores of bytes by their SHA-256, which a vault's cards name. Nothing in a store is ever changed."""
 
-from dataclasses import dataclass
 from pathlib import Path
-from typing import Iterator, List, Optional, Protocol, Sequence
+from typing import Iterator, List, NamedTuple, Optional, Protocol, Sequence
 
 from vault.errors import VaultError
 from vault.files.transfer import Meter, Own
@@ -34,8 +33,7 @@ class MissingError(WrongBytesError):
         super().__init__("the store has nothing of that name")
 
 
-@dataclass(frozen=True)
-class Kept:
+class Kept(NamedTuple):
     """What a store has: the bytes' name, how many they are, and since when, in seconds."""
 
     sha256: str

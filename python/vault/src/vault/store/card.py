@@ -14,11 +14,10 @@ Each line ends with LF; the line of the note may be missing. Anybody can write a
 compared with the bytes, and its name is no path (see `names`).
 """
 
+import functools
 import re
 import time
-from dataclasses import dataclass
-from datetime import datetime
-from typing import Optional
+from typing import NamedTuple, Optional
 
 from vault.errors import MisusedError
 from vault.files.text import CONTROL, moment
@@ -36,8 +35,7 @@ FORM = re.compile(
     r"(?:note (?P<note>[^\n]+)\n)?")
 
 
-@dataclass(frozen=True)
-class Card:
+class Card(NamedTuple):
     """What a card says."""
 
     sha256: str
@@ -53,6 +51,7 @@ class Card:
         return "".join(line + "\n" for line in lines + (["note " + self.note] if self.note else [])).encode("utf-8")
 
 
+@functools.lru_cache(maxsize=256)
 def read_card(content: bytes) -> Optional[Card]:
     """The card that a content is, or nothing if it isn't exactly one."""
     try:
@@ -61,6 +60,7 @@ def read_card(content: bytes) -> Optional[Card]:
         return None
     if found is None or not is_text(found["name"], NAME_BYTES) or not is_text(found["note"] or "-", NOTE_BYTES):
         return None
+    from datetime import datetime
     try:
         datetime.fromisoformat(found["at"][:-1])
     except ValueError:

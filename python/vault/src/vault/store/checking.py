@@ -1,7 +1,6 @@
 """Whether a store has what a vault's versions name."""
 
 import itertools
-from dataclasses import dataclass, field
 from typing import Dict, Iterator, List
 
 from vault.errors import RefusedError
@@ -12,15 +11,13 @@ from vault.store.parts import Parts, Version
 AT_ONCE = 512
 
 
-@dataclass
 class Checked:
     """How many versions there are, how many of them have their bytes in the store, how many drafts of this designer have, and which of all these
     are not as they must be."""
 
-    versions: int = 0
-    files: int = 0
-    drafts: int = 0
-    bad: List["tuple[Version, str]"] = field(default_factory=list)
+    def __init__(self) -> None:
+        self.versions = self.files = self.drafts = 0
+        self.bad: List["tuple[Version, str]"] = []
 
 
 def check_store(parts: Parts, read: bool) -> Checked:

@@ -6,7 +6,6 @@ import os
 import re
 import stat
 import time
-import uuid
 from pathlib import Path
 from typing import IO, Any, Callable, Iterator, List, Optional, Sequence, TypeVar
 
@@ -237,7 +236,7 @@ class FolderStore:
 
     def _new_file(self) -> IO[bytes]:
         """A new file under a name of its own."""
-        return open(self._own_folder(INCOMING) / uuid.uuid4().hex, "xb")
+        return open(self._own_folder(INCOMING) / os.urandom(16).hex(), "xb")
 
     def _own_folder(self, name: str) -> Path:
         """A folder of the store's own. Where it is missing it is made, with the rights of the store's folder: who may write there may here."""

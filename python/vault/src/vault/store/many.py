@@ -1,20 +1,21 @@
 """Many files are put at once: their bytes side by side, and then their cards in a few goes."""
 
-import hashlib
 import os
-from concurrent.futures import ThreadPoolExecutor
 from contextlib import contextmanager
-from dataclasses import dataclass, field
 from pathlib import Path
-from typing import Callable, Dict, Iterator, List, NamedTuple, Sequence, TypeVar, Union
+from typing import TYPE_CHECKING, Callable, Dict, Iterator, List, NamedTuple, Sequence, TypeVar, Union
 
 from vault.client.many import Saving
 from vault.errors import MisusedError, VaultError
+from vault.files.hashes import sha256_of
 from vault.files.transfer import Moved, given, steady
 from vault.protocol.grammar import CONTENT_BYTES
 from vault.store.base import Kept, Store, StoreAwayError, StoreFaultError
 from vault.store.card import Card, name_word, now, read_card
 from vault.store.parts import Parts
+
+if TYPE_CHECKING:
+    from concurrent.futures import ThreadPoolExecutor
 
 # A file's bytes wait for the disk or the network for longer than they are hashed.
 SIDE_BY_SIDE = 8
@@ -31,12 +32,12 @@ class Wanted(NamedTuple):
     name: str
 
 
-@dataclass
 class PutMany:
     """What was put: by place the hash of a draft's bytes; and what was not, each with the reason."""
 
-    hashes: Dict[str, str] = field(default_factory=dict)
-    left: Dict[str, VaultError] = field(default_factory=dict)
+    def __init__(self) -> None:
+        self.hashes: Dict[str, str] = {}
+        self.left: Dict[str, VaultError] = {}
 
 
 def put_all(parts: Parts, wanted: Sequence[Wanted], claim: str, note: str, moved: Moved) -> PutMany:
@@ -114,19 +115,20 @@ def lacking(store: Store, cards: Dict[str, bytes]) -> List[str]:
 def hash_in(content: bytes) -> str:
     """The hash of the bytes that a draft is of."""
     card = read_card(content)
-    return card.sha256 if card is not None else hashlib.sha256(content).hexdigest()
+    return card.sha256 if card is not None else sha256_of(content)
 
 
 def side_by_side(work: Callable[[T], R], every: Sequence[T]) -> List[R]:
     """Does some work for each of some things, for several at a time. The first that can't be done ends it, and what hasn't begun isn't done."""
     if len(every) < 2:
         return [work(each) for each in every]
+    from concurrent.futures import ThreadPoolExecutor
     with ThreadPoolExecutor(SIDE_BY_SIDE) as pool, ended_early(pool):
         return list(pool.map(work, every))
 
 
 @contextmanager
-def ended_early(pool: ThreadPoolExecutor) -> Iterator[None]:
+def ended_early(pool: "ThreadPoolExecutor") -> Iterator[None]:
     """Drops what hasn't begun, if something goes wrong or the designer ends the program."""
     try:
         yield

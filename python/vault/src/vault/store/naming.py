@@ -9,8 +9,7 @@ taken where a folder can have it.
 """
 
 import re
-from dataclasses import dataclass
-from typing import Dict, List, Sequence
+from typing import Dict, List, NamedTuple, Sequence
 
 from vault.client import Client
 from vault.errors import MisusedError
@@ -22,8 +21,7 @@ FORM = re.compile(r"vault name 1\nname (?P<name>[^\n]+)\n")
 OF_PROJECT = f"/{OWN_NAME}/{OWN_NAME}"
 
 
-@dataclass(frozen=True)
-class Surveyed:
+class Surveyed(NamedTuple):
     """What stands from a place on: the projects and assemblies, the parts with the number of their versions, and the real names of the former, as
     far as they have others than their places."""
 

@@ -1,14 +1,13 @@
 """A designer's files in a vault: of each version the vault keeps a card, and the vault's store the bytes."""
 
 import contextlib
-import hashlib
 import os
-from dataclasses import dataclass, replace
 from pathlib import Path
-from typing import IO, Any, Dict, Iterator, List, Optional
+from typing import IO, Any, Dict, Iterator, List, NamedTuple, Optional
 
 from vault.client import Client
 from vault.errors import MisusedError, RefusedError, VaultError
+from vault.files.hashes import sha256_of
 from vault.files.own_folders import cache_folder
 from vault.files.system import sync_folder
 from vault.files.transfer import ChangedNowError, Meter, Own, no_meter, read, steady
@@ -25,8 +24,7 @@ TRIES = 3
 LONG_BYTES = 64 << 20
 
 
-@dataclass(frozen=True)
-class Version:
+class Version(NamedTuple):
     """A version of a part, or a draft of one: its content in the vault, and the card that the content is, if it is one."""
 
     place: str
@@ -41,7 +39,7 @@ class Version:
     @property
     def sha256(self) -> str:
         """The hash of the bytes that were put."""
-        return self.card.sha256 if self.card else hashlib.sha256(self.content).hexdigest()
+        return self.card.sha256 if self.card else sha256_of(self.content)
 
     @property
     def size(self) -> int:
@@ -49,8 +47,7 @@ class Version:
         return self.card.size if self.card else len(self.content)
 
 
-@dataclass(frozen=True)
-class Put:
+class Put(NamedTuple):
     """What was put: the check-out that the draft belongs to, the bytes, and the name that the part's file has, where a card says it."""
 
     claim: str
@@ -147,7 +144,7 @@ class Parts:
             raise MisusedError(f"{claim} has no draft of a file in a store, so there is none for the note. Check it in without.")
         for place, card in cards.items():
             if card is not None and card.note != note:
-                self.client.put(place, replace(card, note=note).spell(), claim, keep=kept.get(place) == drafts[place])
+                self.client.put(place, card._replace(note=note).spell(), claim, keep=kept.get(place) == drafts[place])
         return sum(card is not None for card in cards.values())
 
     def checkin(self, claim: str, files: Optional[Dict[str, Path]] = None) -> int:
@@ -204,7 +201,7 @@ class Parts:
             raise MisusedError(f"{file} has the form of a card, by which a vault names bytes in its store, and this vault names none. `vault store"
                                " set ADDRESS` names one; then put the file again.")
         self.client.put(place, content, claim, os.path.abspath(file))
-        return Put(claim, len(content), hashlib.sha256(content).hexdigest())
+        return Put(claim, len(content), sha256_of(content))
 
     @staticmethod
     def _still_there(store: Store, kept: Kept) -> bool:

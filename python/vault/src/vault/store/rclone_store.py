@@ -12,7 +12,6 @@ import re
 import shutil
 import subprocess
 import time
-import uuid
 from datetime import datetime
 from pathlib import Path
 from typing import Any, Dict, Iterator, List, Optional, Sequence, Tuple
@@ -48,7 +47,7 @@ class RcloneStore:
             if self._list(""):
                 raise MisusedError(f"{self.address} has files, but is no store. Name another path.")
             self._write(MARK_NAME, MARK)
-        trial = f"{INCOMING}/{uuid.uuid4().hex}"
+        trial = f"{INCOMING}/{os.urandom(16).hex()}"
         self._write(trial, MARK)
         if self._read(trial) != MARK or self._read(MARK_NAME) != MARK:
             raise StoreFaultError(f"The store {self.address} doesn't give back what is written there. Ask whoever runs it.")
@@ -159,7 +158,7 @@ class RcloneStore:
 
     def _bring_in(self, source: Path, kept: Kept, meter: Meter, follow: bool) -> None:
         """Writes a file under a name of its own, reads it back through its hash, and gives it its name, unless that has come meanwhile."""
-        came = f"{INCOMING}/{uuid.uuid4().hex}"
+        came = f"{INCOMING}/{os.urandom(16).hex()}"
         try:
             self._send(source, came, kept, meter, follow)
             self._look_through(came, kept, meter)

@@ -9,16 +9,16 @@ from vault.files.text import quoted, shown
 from vault.protocol.grammar import IS_THERE
 from vault.store.address import Address, FolderAddress, read_store_address, read_way
 from vault.store.base import Store
-from vault.store.folder_store import FolderStore
-from vault.store.rclone_store import RcloneStore
 
 STORE_PLACE = "/vault/settings/store"
 
 
 def open_store(address: Address) -> Store:
-    """The store at an address."""
+    """The store at an address. Only its kind is loaded."""
     if isinstance(address, FolderAddress):
+        from vault.store.folder_store import FolderStore
         return FolderStore(address)
+    from vault.store.rclone_store import RcloneStore
     return RcloneStore(address)
 
 

@@ -8,7 +8,8 @@ from vault.files.text import quoted, shown
 from vault.protocol.grammar import IS_THERE, NO_PLACE
 from vault.protocol.words import place_word
 from vault.working.remembered import Entry
-from vault.working.found import Found, covering
+from vault.working.found import Found
+from vault.working.modes import covering
 from vault.working.renamed import Renamed, sha256_of
 
 TRIES = 5

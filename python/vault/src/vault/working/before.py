@@ -7,30 +7,22 @@ import contextlib
 import errno
 import os
 import re
-import shutil
 import time
-import uuid
-from dataclasses import dataclass
-from datetime import datetime, timezone
 from pathlib import Path
-from typing import Any, Dict, Iterator
+from typing import Any, Dict, Iterator, NamedTuple
 
 from vault.files.system import set_writable, sync_folder
 from vault.files.whole import end, give_new_name, new_file
 from vault.protocol.grammar import PLACE
 
 BEFORE = "before"
-KEEP_DAYS = 14
-MOST_DAYS = 36500
-DAY_SECONDS = 86400
 STAMP = "%Y%m%dT%H%M%S.%fZ"
 # A new file that is about to change its name with an old one: its number and its time, by which it is known until it has.
 SWAP = re.compile(r"swap-(?P<number>[0-9]{1,20})-(?P<time>[0-9]{1,20})-[0-9a-f]{32}")
 NAME = re.compile(r"(?P<stamp>[0-9]{8}T[0-9]{6}\.[0-9]{6}Z)-v(?P<version>[0-9]{1,10})-(?P<size>[0-9]{1,19})-(?P<time>-?[0-9]{1,20})")
 
 
-@dataclass(frozen=True)
-class Before:
+class Before(NamedTuple):
     """A file that was moved aside: where it is, its part, the version that it was made of, when it was moved, by which it is named, and
     its size and time then."""
 
@@ -44,6 +36,7 @@ class Before:
     @property
     def moved(self) -> float:
         """When it was moved, in seconds."""
+        from datetime import datetime, timezone
         return datetime.strptime(self.stamp, STAMP).replace(tzinfo=timezone.utc).timestamp()
 
     @property
@@ -60,6 +53,7 @@ class Before:
 
 def name_for(version: int, seen: os.stat_result, moved: float) -> str:
     """The name under which a file is kept that is moved now."""
+    from datetime import datetime, timezone
     stamp = datetime.fromtimestamp(moved, timezone.utc).strftime(STAMP)
     return f"{stamp}-v{version}-{seen.st_size}-{seen.st_mtime_ns}"
 
@@ -86,6 +80,7 @@ def bring_back(kept: Before, path: Path) -> None:
     except OSError as error:
         if error.errno != errno.EXDEV:
             raise
+        import shutil
         with new_file(path.parent, ".vault-") as file, open(kept.path, "rb") as source:
             shutil.copyfileobj(source, file)
             give_new_name(end(file), path)
@@ -94,7 +89,7 @@ def bring_back(kept: Before, path: Path) -> None:
 
 def swap_name(seen: os.stat_result) -> str:
     """The name of a new file that is about to change its name with an old one."""
-    return f"swap-{seen.st_ino}-{seen.st_mtime_ns}-{uuid.uuid4().hex}"
+    return f"swap-{seen.st_ino}-{seen.st_mtime_ns}-{os.urandom(16).hex()}"
 
 
 def is_swap(path: Path) -> bool:

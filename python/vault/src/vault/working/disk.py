@@ -5,7 +5,6 @@ at which the new one gets its name.
 import contextlib
 import errno
 import os
-import shutil
 import stat
 import time
 from pathlib import Path
@@ -16,7 +15,8 @@ from vault.files.looks import COARSE, same, same_bytes, unsure
 from vault.files.system import exchange, is_writable, patiently, set_writable
 from vault.files.transfer import ChangedNowError, read
 from vault.files.whole import TakenError, end, give_new_name, new_file
-from vault.working.before import BEFORE, DAY_SECONDS, Before, is_swap, kept_in, name_for, remove_swap, swap_name
+from vault.working.before import BEFORE, Before, is_swap, kept_in, name_for, remove_swap, swap_name
+from vault.working.days import DAY_SECONDS
 from vault.working.remembered import OWN, Entry, Remembered
 
 # How far in the past the time of a new file is set, so that whoever changes it changes that, too.
@@ -57,21 +57,25 @@ class Disk(Remembered):
         return False
 
     def seen(self, name: str) -> Optional[os.stat_result]:
-        """How a file looks, or nothing if it isn't there. That there is no link on the way to its folder is looked at once: what writes there
-        looks again."""
-        above = name.rpartition("/")[0]
+        """How a file looks, or nothing if it isn't there."""
         try:
-            if above not in self.looked_at:
-                self.at(name)
-                self.looked_at.add(above)
-            return os.lstat(f"{self.path}/{name}")
+            return os.lstat(self.to_read(name))
         except FileNotFoundError:
             return None
+
+    def to_read(self, name: str) -> str:
+        """The path of a file that is only looked at or read. That there is no link on the way to its folder is looked at once: what writes there
+        looks again."""
+        above = name.rpartition("/")[0]
+        if above not in self.looked_at:
+            self.at(name)
+            self.looked_at.add(above)
+        return f"{self.path}/{name}"
 
     def set_writable(self, name: str, writable: bool) -> bool:
         """Makes a file writable, or one that isn't changed here read-only, and goes on knowing that it isn't changed. Whether it did."""
         try:
-            before = os.lstat(self.path / name)
+            before = os.lstat(f"{self.path}/{name}")
         except OSError:
             return False
         if not stat.S_ISREG(before.st_mode) or is_writable(before.st_mode) == writable:
@@ -165,6 +169,7 @@ class Disk(Remembered):
         except OSError as error:
             if error.errno != errno.EXDEV:
                 raise
+            import shutil
             self.apart.add(path.parent)
             with new_file(self._own_beside(path.parent), "new-") as file, open(came, "rb") as source:
                 shutil.copyfileobj(source, file)

@@ -11,7 +11,7 @@ from typing import Dict, List, Optional, Tuple
 from vault.errors import MisusedError
 from vault.files.names import exact, folded
 from vault.working.disk import Disk
-from vault.working.remembered import OWN, is_safe, read_kept
+from vault.working.remembered import OWN, is_safe
 
 # How many slashes an assembly's place has at least, and at most.
 PROJECT_AND_ASSEMBLY = 2
@@ -85,11 +85,6 @@ class Folder(Disk):
         """A name in a folder of the working folder."""
         return name if above in ("", ".") else f"{above}/{name}"
 
-    def taken(self, above: str) -> Dict[str, str]:
-        """The names that are given in a folder, by what tells them apart on this disk."""
-        names = [name for name in (*self.files, *self.folders) if name and name.rpartition("/")[0] == above]
-        return {self.key(name.rpartition("/")[2]): name for name in names}
-
     def key(self, name: str) -> str:
         """What tells a name from others on this disk: on some, names that differ only in capitals are of one file."""
         return exact(name) if self.tells_capitals else folded(name)
@@ -103,7 +98,7 @@ class Folder(Disk):
 def read_folder(path: Path) -> Optional[Folder]:
     """What is remembered of a working folder, or nothing if it is none."""
     found = Folder(path, "/", "")
-    return found if read_kept(path, found.take) else None
+    return found if found.read() else None
 
 
 def find_folder(path: Path) -> Folder:

@@ -1,28 +1,25 @@
 """What is found in a working folder: how each file stands beside the vault."""
 
-import contextlib
-from dataclasses import dataclass
-from typing import Dict, Iterable, List, Optional, Sequence
+from typing import Dict, Iterable, List, NamedTuple, Optional, Sequence
 
 from vault.errors import MisusedError
 from vault.files.text import quoted, why
 from vault.files.transfer import ChangedNowError, Read, read
-from vault.protocol.grammar import under
 from vault.protocol.standing import Holder
-from vault.store.naming import Surveyed, survey
+from vault.store.naming import Surveyed, name_place, read_name, survey
 from vault.store.parts import Parts, Version
 from vault.store.setting import STORE_PLACE
 from vault.working.before import Before
 from vault.working.folder import Folder
+from vault.working.modes import covering, settle_modes
+from vault.working.opening import in_address_words, is_at, server_of
 from vault.working.remembered import Entry
-from vault.working.opening import in_address_words, server_of
 
 # How many of a part's last versions are compared with a draft.
 LOOKED_BACK = 64
 
 
-@dataclass(frozen=True)
-class Saved:
+class Saved(NamedTuple):
     """A draft that the server has: its check-out, what it is, and whether it was put by this designer from this machine."""
 
     claim: str
@@ -30,8 +27,7 @@ class Saved:
     from_here: bool
 
 
-@dataclass(frozen=True)
-class State:
+class State(NamedTuple):
     """How a file stands: whether it is changed or missing here, whether its newest version is another than the one that it was made of,
     whether its part is gone from the vault, and whether it is checked out for change, by this designer, or by others, as far as the server
     says; whether it is a draft, and the check-out that has another draft of it than was put last; and why it can't be read, if it can't."""
@@ -50,8 +46,7 @@ class State:
     fault: str = ""
 
 
-@dataclass(frozen=True)
-class Look:
+class Look(NamedTuple):
     """How a working folder stands: its files, the parts that have no file here, each with its newest version, and what was moved aside and
     saved since by a program that had it open."""
 
@@ -65,8 +60,8 @@ class Found:
 
     def __init__(self, parts: Parts, folder: Folder):
         self.parts, self.client, self.folder = parts, parts.client, folder
-        if not set(folder.server.split(",")) & set(server_of(parts).split(",")):
-            before, here = in_address_words(folder.server), in_address_words(server_of(parts))
+        if not is_at(folder, self.client):
+            before, here = in_address_words(folder.server), in_address_words(server_of(self.client))
             raise MisusedError(f"{folder.path} was got from {before}, and you are at {here}. Name the other by `--as`; or, if that vault has moved"
                                f" here, say `vault hello {self.client.designer}@{here},{before}`, and then `vault get {folder.place} --to"
                                f" {quoted(str(folder.path))}`.")
@@ -87,14 +82,8 @@ class Found:
                     [each for each in self.folder.kept_before() if each.saved_since])
 
     def settle_modes(self, claims: Dict[str, Sequence[str]]) -> bool:
-        """Makes files writable that a check-out of this designer covers for change, that are new, or all in a folder that wants that; others
-        that aren't changed are read-only. Whether that changed any."""
-        changed = False
-        for name, entry in self.folder.files.items():
-            with contextlib.suppress(OSError, MisusedError):
-                writable = self.folder.writable or not entry.version or bool(covering(claims, entry.place))
-                changed = self.folder.set_writable(name, writable) or changed
-        return changed
+        """Settles which files are writable. Whether that changed any."""
+        return settle_modes(self.folder, claims)
 
     def _has(self, name: str, version: Version) -> bool:
         """Whether a file has the bytes of a version."""
@@ -133,10 +122,25 @@ class Found:
     def _surveyed(self) -> Surveyed:
         """What stands from the folder's place on. A real name that is in the vault is none that waits to be put."""
         surveyed = survey(self.client, self.folder.place)
-        for place, name in surveyed.names.items():
+        self._take_names(surveyed.names)
+        return surveyed
+
+    def _take_names(self, names: Dict[str, str]) -> None:
+        """Real names that are in the vault don't wait to be put."""
+        for place, name in names.items():
             if self.folder.naming.get(place) == name:
                 del self.folder.naming[place]
-        return surveyed
+
+    def _settle_names(self) -> None:
+        """Finds out which of the real names that wait to be put are in the vault."""
+        kept = {name_place(place): place for place in self.folder.naming}
+        wanted = [(each, number) for each, number in self.client.numbers(list(kept)).items() if number]
+        self._take_names({kept[each]: read_name(content) for (each, _), content in zip(wanted, self.client.contents(wanted))})
+
+    def _settle_drafts(self, claims: Optional[Sequence[str]] = None) -> None:
+        """Finds out which drafts of files became versions: those of some check-outs, or all."""
+        self._settle(self.client.numbers([entry.place for entry in self.folder.files.values()
+                                          if entry.draft and (claims is None or entry.claim in claims)]))
 
     def _states(self, claims: Dict[str, Sequence[str]], numbers: Dict[str, int], saved: Dict[str, Saved]) -> List[State]:
         """How each file of a part stands, by the check-outs of this designer and their drafts."""
@@ -184,11 +188,6 @@ class Found:
                 entry.version, entry.sha256, entry.size = number, entry.draft, -1
                 entry.name = version.card.name if version.card else entry.name
                 entry.draft = entry.claim = ""
-
-
-def covering(claims: Dict[str, Sequence[str]], place: str) -> List[str]:
-    """The check-outs that cover a place for change."""
-    return [name for name, items in claims.items() if any(item[0] == "w" and under(place, item[2:]) for item in items)]
 
 
 def was_put(entry: Entry, claim: str, draft: Version) -> bool:

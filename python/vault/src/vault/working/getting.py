@@ -13,11 +13,12 @@ from vault.files.transfer import ChangedNowError, Moved, given
 from vault.files.whole import end
 from vault.store.base import StoreFaultError
 from vault.store.naming import Surveyed
-from vault.store.parts import Version
+from vault.store.parts import Parts, Version
 from vault.store.setting import STORE_PLACE
 from vault.working.folder import Folder
 from vault.working.remembered import Entry
-from vault.working.found import Found, covering
+from vault.working.found import Found
+from vault.working.modes import covering
 from vault.working.opening import server_of
 from vault.working.told import Done
 
@@ -29,7 +30,12 @@ NO_NAME = (errno.EINVAL, errno.EILSEQ, errno.ENAMETOOLONG)
 class Getting(Found):
     """A working folder that is got."""
 
-    claims: Dict[str, Sequence[str]] = {}
+    def __init__(self, parts: Parts, folder: Folder):
+        super().__init__(parts, folder)
+        self.claims: Dict[str, Sequence[str]] = {}
+        # The names that are given in each folder, by what tells them apart on this disk, and the folders of assemblies by their places.
+        self.given: Dict[str, Dict[str, str]] = {}
+        self.folder_of: Dict[str, str] = {}
 
     def get(self) -> Done:
         """Brings the folder up to the vault: what is new, newer or missing is fetched; what was changed here is left. What gives way is moved
@@ -50,7 +56,7 @@ class Getting(Found):
                 for version in versions:
                     self._get_or_tell(version, names.get(version.place), moved, done)
                     self.folder.save_now_and_then()
-            self.folder.server = server_of(self.parts)
+            self.folder.server = server_of(self.client)
             self.settle_modes(self.claims)
         finally:
             self.folder.save()
@@ -60,14 +66,27 @@ class Getting(Found):
 
     def _make_folders(self, surveyed: Surveyed) -> None:
         """Makes the folders of assemblies, each in that of the one that it stands in, by their real names."""
-        names = {place: name for name, place in self.folder.folders.items()}
+        self.folder_of = names = {place: name for name, place in self.folder.folders.items()}
+        for name in (*self.folder.files, *self.folder.folders):
+            self._give(name)
         for place in surveyed.assemblies[1:]:
             above, _, own = place.rpartition("/")
             if place not in names:
                 inner = names[above or "/"]
-                names[place] = Folder.joined(inner, choose_name(surveyed.names.get(place, own), own, self.folder.taken(inner), self.folder.key))
+                names[place] = Folder.joined(inner, choose_name(surveyed.names.get(place, own), own, self._taken(inner), self.folder.key))
                 self.folder.folders[names[place]] = place
+                self._give(names[place])
             self.folder.make_folder(names[place])
+
+    def _taken(self, above: str) -> Dict[str, str]:
+        """The names that are given in a folder, by what tells them apart on this disk."""
+        return self.given.setdefault(above, {})
+
+    def _give(self, name: str) -> None:
+        """Notes that a name is given."""
+        above, _, own = name.rpartition("/")
+        if name:
+            self._taken(above)[self.folder.key(own)] = name
 
     def _wants(self, name: Optional[str], number: int) -> bool:
         """Whether a part's version must be looked at: it is new here, another than the one that was got, or its file is missing."""
@@ -126,8 +145,8 @@ class Getting(Found):
         here, the draft that was put of it isn't what is here from now on: only its check-out is remembered."""
         own = version.place.rpartition("/")[2]
         wanted = version.card.name if version.card else own
-        above = self._folder_of(version.place)
-        taken = {each for each, full in self.folder.taken(above).items() if full != name}
+        above = self.folder_of[version.place.rpartition("/")[0]]
+        taken = {each for each, full in self._taken(above).items() if full != name}
         new = Folder.joined(above, choose_name(wanted, own, taken, self.folder.key))
         if name is not None and folded(new) == folded(name):
             new = name
@@ -142,13 +161,16 @@ class Getting(Found):
             came, covered = end(file), bool(covering(self.claims, version.place))
             try:
                 self.folder.bring(came, new, entry, before, covered)
+                self._give(new)
                 return new
             except OSError as error:
                 if error.errno not in NO_NAME or before is not None:
                     raise
-            above, own = self._folder_of(version.place), version.place.rpartition("/")[2]
-            other = Folder.joined(above, choose_name(own, own, {*self.folder.taken(above), folded(new.rpartition("/")[2])}))
+            inside, _, own = version.place.rpartition("/")
+            above = self.folder_of[inside]
+            other = Folder.joined(above, choose_name(own, own, {*self._taken(above), folded(new.rpartition("/")[2])}))
             self.folder.bring(came, other, entry, None, covered)
+            self._give(other)
             return other
 
     def _give_up(self, name: str, new: str, before: Optional[os.stat_result], done: Done) -> None:
@@ -161,6 +183,8 @@ class Getting(Found):
             pass
         finally:
             del self.folder.files[name]
+            above, _, own = name.rpartition("/")
+            self._taken(above).pop(self.folder.key(own), None)
         if self.folder.seen(name) is not None:
             done.left.append((name, f"was changed right now, and stays as a file of no part: {place} is {shown(new)} now"))
 
@@ -170,9 +194,5 @@ class Getting(Found):
         if found is not None:
             self.folder.files[name] = entry
             self.folder.remember_look(name, found.seen, found.looked)
+            self._give(name)
         return found is not None
-
-    def _folder_of(self, place: str) -> str:
-        """The folder of the assembly that a part stands in."""
-        above = place.rpartition("/")[0]
-        return next(name for name, each in self.folder.folders.items() if each == above)

@@ -14,7 +14,7 @@ from vault.store.many import side_by_side
 from vault.store.naming import Surveyed
 from vault.working.adding import Adding
 from vault.working.folder import PROJECT_AND_ASSEMBLY
-from vault.working.found import covering
+from vault.working.modes import covering
 from vault.working.planning import Plan, Planner, too_many_drafts
 from vault.working.putting import Putting
 from vault.working.putting_many import ToPut
@@ -30,6 +30,7 @@ class Importing(Putting, Adding):
         place = self.folder.place
         missing = self.missing_above(place)
         surveyed = Surveyed([place], {}, {}) if missing else self._surveyed()
+        self._settle(surveyed.numbers)
         assemblies, parts = self.client.survey("/")
         planner = Planner(self.folder, surveyed, len(assemblies) + len(parts) + len(missing), ignored_in(self.folder.path))
         for name in names or ():
@@ -50,13 +51,17 @@ class Importing(Putting, Adding):
         return [Making("nest" if each.count("/") > PROJECT_AND_ASSEMBLY else "make", each) for each in above if not self.client.is_there(each)]
 
     def make_above(self) -> None:
-        """Makes the folder's own place, and those that it stands in, where they aren't there. One that is new gets the folder's real name."""
-        missing, own = self.missing_above(self.folder.place), self.folder.path.name
-        for place, error in self.client.make_all(missing).items():
-            if error.code != IS_THERE:
-                raise RefusedError(f"{place} was not made. {error}", error.code)
+        """Makes the folder's own place, and those that it stands in, where they aren't there. One that is new gets the folder's real name, which is
+        written down before: a try behind this one finds the place there."""
+        missing, own, was_none = self.missing_above(self.folder.place), self.folder.path.name, self.folder.saved is None
         if missing and usable(own) and own != self.folder.place.rpartition("/")[2]:
             self.folder.naming[self.folder.place] = own
+            self.folder.save()
+        for place, error in self.client.make_all(missing).items():
+            if error.code != IS_THERE:
+                if was_none:
+                    self.folder.forget()
+                raise RefusedError(f"{place} was not made. {error}", error.code)
 
     def check_out(self) -> Tuple[str, List[str]]:
         """A held check-out of this designer that covers the folder's place for change, and what it has: one that stands, or a new one."""
@@ -106,6 +111,7 @@ class Importing(Putting, Adding):
         if note is not None:
             note_word(note)
         self.client.remember_folder(str(self.folder.path))
+        self._settle_drafts()  # of a try that was broken off behind its check-in
         done, waiting = Done(), len(self.waiting())
         if waiting > DRAFTS and not in_parts:
             raise too_many_drafts(self.folder.path, waiting, word)
@@ -118,9 +124,10 @@ class Importing(Putting, Adding):
                     raise RefusedError(f"{claim} has a draft that is not what is here, so it wasn't checked in. {done.others[claim][0]}"
                                        f" {done.others[claim][1]}. `vault checkin {claim}` checks it in as it is.")
                 self._check_in(claim, None, done)
-                self._settle_checked_in([claim])
+                self._settle_checked_in([claim], more=True)
             left = {name for name, _ in done.left}
             if done.versions == before or not [name for name in self.waiting() if name not in left]:
+                self._settle_checked_in(done.claims)
                 return done
             with done.told_with_errors():
                 claim = self._next(asked)

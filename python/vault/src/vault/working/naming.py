@@ -5,7 +5,8 @@ from typing import Dict, List, Sequence
 from vault.errors import RefusedError
 from vault.protocol.grammar import IS_THERE
 from vault.store.naming import is_of_names, name_place, spell_name
-from vault.working.found import Found, Saved, covering
+from vault.working.found import Found, Saved
+from vault.working.modes import covering
 from vault.working.told import Done
 
 

@@ -2,16 +2,25 @@
 
 import os
 from pathlib import Path
+from typing import TYPE_CHECKING
 
+from vault.client import Client
 from vault.errors import MisusedError
-from vault.store.parts import Parts
 from vault.working.folder import Folder, read_folder
 from vault.working.remembered import OWN
 
+if TYPE_CHECKING:
+    from vault.store.parts import Parts
 
-def server_of(parts: Parts) -> str:
+
+def server_of(client: Client) -> str:
     """The server that files come from, or a vault's servers with commas between."""
-    return ",".join(f"{host}:{port}" for host, port in parts.client.servers)
+    return ",".join(f"{host}:{port}" for host, port in client.servers)
+
+
+def is_at(folder: Folder, client: Client) -> bool:
+    """Whether a working folder was got from the vault at which a designer is."""
+    return bool(set(folder.server.split(",")) & set(server_of(client).split(",")))
 
 
 def in_address_words(servers: str) -> str:
@@ -19,7 +28,7 @@ def in_address_words(servers: str) -> str:
     return ",".join(server.removesuffix(":0") for server in servers.split(","))
 
 
-def folder_for(parts: Parts, place: str, path: Path) -> Folder:
+def folder_for(parts: "Parts", place: str, path: Path) -> Folder:
     """The working folder of an assembly at a path. It is made if nothing is there."""
     path = Path(os.path.abspath(path))
     folder = read_folder(path)
@@ -33,4 +42,4 @@ def folder_for(parts: Parts, place: str, path: Path) -> Folder:
             raise MisusedError(f"{path} has files, and is no working folder. Name a new folder, or an empty one.")
     except OSError as error:
         raise MisusedError(f"The folder {path} can't be made: {error.strerror}.") from error
-    return Folder(path, place, server_of(parts))
+    return Folder(path, place, server_of(parts.client))

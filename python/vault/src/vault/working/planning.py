@@ -3,7 +3,6 @@ and what the vault can't hold."""
 
 import os
 import stat
-from dataclasses import dataclass, field
 from pathlib import Path
 from typing import Dict, List, Set, Tuple
 
@@ -21,21 +20,21 @@ from vault.working.remembered import OWN
 MOVE_SOME = "move some of them into a folder of their own"
 
 
-@dataclass
 class Plan:
     """What is made of the files and folders of a working folder: places for folders, each above those in it, with the real names that these get
     where a place can't have them; parts of files, with how many bytes they have; what is ignored; what else is left out, and what the vault can't
     hold, each with the reason; and pairs of names that differ only in capitals."""
 
-    folders: Dict[str, Making] = field(default_factory=dict)
-    names: Dict[str, str] = field(default_factory=dict)
-    known: Dict[str, str] = field(default_factory=dict)
-    files: Dict[str, str] = field(default_factory=dict)
-    sizes: Dict[str, int] = field(default_factory=dict)
-    ignored: List[str] = field(default_factory=list)
-    left: List[Tuple[str, str]] = field(default_factory=list)
-    too_much: List[Tuple[str, str]] = field(default_factory=list)
-    alike: List[Tuple[str, str]] = field(default_factory=list)
+    def __init__(self) -> None:
+        self.folders: Dict[str, Making] = {}
+        self.names: Dict[str, str] = {}
+        self.known: Dict[str, str] = {}
+        self.files: Dict[str, str] = {}
+        self.sizes: Dict[str, int] = {}
+        self.ignored: List[str] = []
+        self.left: List[Tuple[str, str]] = []
+        self.too_much: List[Tuple[str, str]] = []
+        self.alike: List[Tuple[str, str]] = []
 
     @property
     def makings(self) -> List[Making]:

@@ -1,6 +1,7 @@
 """The changed files of a working folder are put, and checked in."""
 
 import contextlib
+from pathlib import Path
 from typing import Dict, Iterable, List, Optional, Sequence
 
 from vault.errors import MisusedError, RefusedError, VaultError
@@ -9,7 +10,8 @@ from vault.protocol.grammar import DRAFTS
 from vault.store.card import note_word
 from vault.store.naming import named_by, read_name
 from vault.store.parts import Version
-from vault.working.found import Saved, State, covering, was_put
+from vault.working.found import Saved, State, was_put
+from vault.working.modes import covering
 from vault.working.putting_many import PuttingMany, ToPut
 from vault.working.renamed import is_beside
 from vault.working.told import NOT_COVERED, REASONS, Done, another, in_words, put_already, reason_against
@@ -168,22 +170,26 @@ class Putting(PuttingMany):
         """Checks one check-out in."""
         if note is not None:
             self.parts.set_note(claim, note)
-        here = {entry.place: self.folder.at(name) for name, entry in self.folder.files.items() if entry.claim == claim}
+        here = {entry.place: Path(self.folder.to_read(name)) for name, entry in self.folder.files.items() if entry.claim == claim}
         done.versions += self.parts.checkin(claim, here) - list(done.named.values()).count(claim)
         done.claims.append(claim)
 
-    def _settle_checked_in(self, claims: List[str]) -> None:
-        """Remembers which versions the files are that were drafts in check-outs that are checked in. If the server is lost meanwhile, the next
-        look at the folder finds out."""
+    def _settle_checked_in(self, claims: List[str], more: bool = False) -> None:
+        """Remembers which versions the files are that were drafts in check-outs that are checked in; where more are to come, that is written down
+        with these. If the server is lost meanwhile, the next look at the folder finds out."""
         if not claims:
             return
         with contextlib.suppress(VaultError, OSError):
-            self._settle(self._surveyed().numbers)
+            self._settle_drafts(claims)
+            self._settle_names()
             for name, entry in self.folder.files.items():
                 put = self.put_as.get(name)
                 if put is not None and entry.size < 0 and put.sha256 == entry.sha256:
                     self.folder.remember_look(name, put.seen, put.looked)
                 if entry.claim in claims:
                     entry.draft = entry.claim = ""
-            self.settle_modes(self._claims())
-            self.folder.save()
+            if more:
+                self.folder.save_now_and_then()
+            else:
+                self.settle_modes(self._claims())
+                self.folder.save()

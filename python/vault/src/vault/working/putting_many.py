@@ -1,6 +1,7 @@
 """Files of a working folder are put, many at a time, and no more than a check-out takes."""
 
 import time
+from pathlib import Path
 from typing import Dict, List, NamedTuple, Optional, Sequence
 
 from vault.client.many import batches
@@ -51,8 +52,8 @@ class PuttingMany(Naming):
         """Puts some files, and remembers what was put, also if one of them was refused."""
         names = {self.folder.files[each.file].place: each.file for each in batch}
         looks = {each.file: (time.time_ns(), self.folder.seen(each.file)) for each in batch}
-        put = put_all(self.parts, [Wanted(self.folder.files[each.file].place, self.folder.at(each.file), each.name) for each in batch], claim, note,
-                      moved)
+        wanted = [Wanted(self.folder.files[each.file].place, Path(self.folder.to_read(each.file)), each.name) for each in batch]
+        put = put_all(self.parts, wanted, claim, note, moved)
         for place, sha256 in put.hashes.items():
             entry = self.folder.files[names[place]]
             entry.draft, entry.claim = sha256, claim

@@ -1,46 +1,40 @@
 """What the client remembers of a working folder, in `.vault` in that folder."""
 
 import contextlib
+import functools
 import json
 import os
 import re
 import time
-from dataclasses import dataclass
 from pathlib import Path
-from typing import Any, Callable, Dict, Iterator, List, Set
-
-from filelock import FileLock
+from typing import Any, Dict, Iterator, List, Optional, Set
 
 from vault.errors import MisusedError, VaultError
-from vault.files.locks import taken
+from vault.files.locks import lock_at
 from vault.files.names import usable
 from vault.files.system import sync_folder
 from vault.files.whole import write_whole
 from vault.protocol.grammar import CHECKOUT, PLACE
-from vault.working.before import KEEP_DAYS, MOST_DAYS, Before, settle_swaps
+from vault.working.before import Before, settle_swaps
+from vault.working.days import KEEP_DAYS, MOST_DAYS
 
 OWN = ".vault"
 FORM = "vault working folder 1"
 # What a killed client may leave among them.
 LEFT = re.compile(r"new-[0-9a-f]{32}|\.folder\.json.+")
-SAVED_EACH_SECONDS = 1.0
+# How long it isn't saved again: so many seconds, and so many times as long as that took.
+SAVED_EACH_SECONDS, SAVED_EACH_TIMES = 1.0, 20
 
 
-@dataclass
 class Entry:
     """What is remembered of a part's file: the version that it was, and how it looked then, with its time and when that was set; the name
     in its card; and the draft of it that was put since."""
 
-    place: str
-    version: int
-    sha256: str
-    size: int = -1
-    time: int = 0
-    set_at: int = 0
-    looked: int = 0
-    name: str = ""
-    draft: str = ""
-    claim: str = ""
+    def __init__(self, place: str, version: int, sha256: str, size: int = -1, time: int = 0, set_at: int = 0, looked: int = 0,
+                 name: str = "", draft: str = "", claim: str = ""):
+        self.place, self.version, self.sha256 = place, version, sha256
+        self.size, self.time, self.set_at, self.looked = size, time, set_at, looked
+        self.name, self.draft, self.claim = name, draft, claim
 
 
 class Remembered:
@@ -54,7 +48,9 @@ class Remembered:
         self.making: Dict[str, str] = {}
         self.naming: Dict[str, str] = {}
         self.keep_days, self.writable = KEEP_DAYS, False
-        self.saved_at, self.saved = 0.0, b""
+        # When what is remembered was put on disk, how long that took, and as what it was put there or read.
+        self.saved_at = self.save_took = 0.0
+        self.saved: Optional[bytes] = None
         # Folders to which no link leads, as far as files are only looked at.
         self.looked_at: Set[str] = set()
         # Folders whose entries have to be on disk before what is remembered of them, and those that turned out to be on another mount.
@@ -68,19 +64,33 @@ class Remembered:
         """Keeps other clients away from this folder."""
         own = self.path / OWN
         self._real(own).mkdir(exist_ok=True)
-        lock = FileLock(own / "lock")
-        if not taken(lock):
+        lock = lock_at(own / "lock")
+        if not lock.take():
             raise MisusedError(f"Another `vault` works in {self.path}. Wait until it has ended.")
         try:
             self._remove_leftovers()
-            self._read_again()
+            self.read(self.place)
             yield
         finally:
             lock.release()
 
-    def _read_again(self) -> None:
-        """Reads anew what is remembered, since another client may have worked here before the lock was had."""
-        read_kept(self.path, lambda kept: self.take(kept) if kept["place"] == self.place else None)
+    def read(self, place: str = "") -> bool:
+        """Reads what is remembered on disk, if it is of a place and isn't what was read or put there last: another client may have worked here
+        since. Answers whether this is a working folder."""
+        kept = self.path / OWN / "folder.json"
+        try:
+            content = kept.read_bytes()
+            if content != self.saved:
+                read = json.loads(content.decode("utf-8"))
+                if place in ("", read["place"]):
+                    self.take(read)
+                    self.saved = content
+            return True
+        except (FileNotFoundError, NotADirectoryError):
+            return False
+        except (ValueError, KeyError, TypeError, AttributeError) as error:
+            raise VaultError(f"{kept} can't be read: {error}. Move {self.path} away, and get the assembly again; then copy your changed files"
+                             " over it.") from error
 
     def take(self, kept: Dict[str, Any]) -> None:
         """Takes over what is remembered, which anybody may have written."""
@@ -118,8 +128,9 @@ class Remembered:
             if own.is_dir() and os.path.realpath(own) == os.path.join(os.path.realpath(self.path), *own.relative_to(self.path).parts):
                 yield own
 
-    def save(self) -> None:
+    def save(self, at_once: bool = True) -> None:
         """Puts what is remembered on disk, behind the files that it is about."""
+        began = time.monotonic()
         while self.unsynced:
             with contextlib.suppress(FileNotFoundError):
                 sync_folder(next(iter(self.unsynced)))
@@ -128,13 +139,20 @@ class Remembered:
                 "keep_days": self.keep_days, "writable": self.writable, "files": {name: vars(entry) for name, entry in sorted(self.files.items())}}
         content = json.dumps(kept).encode("utf-8")
         if content != self.saved:
-            write_whole(self._real(self.path / OWN) / "folder.json", content)
+            write_whole(self._real(self.path / OWN) / "folder.json", content, at_once=at_once)
             self.saved = content
         self.saved_at = time.monotonic()
+        self.save_took = self.saved_at - began
+
+    def forget(self) -> None:
+        """Has the folder be no working folder any more."""
+        with contextlib.suppress(FileNotFoundError):
+            os.unlink(self._real(self.path / OWN) / "folder.json")
+        self.saved = None
 
     def save_now_and_then(self) -> None:
         """Puts what is remembered on disk if that was a while ago: it takes longer the more files there are."""
-        if time.monotonic() - self.saved_at > SAVED_EACH_SECONDS:
+        if time.monotonic() - self.saved_at > max(SAVED_EACH_SECONDS, SAVED_EACH_TIMES * self.save_took):
             self.save()
 
     def remember_look(self, name: str, seen: os.stat_result, looked: int) -> None:
@@ -159,22 +177,16 @@ class Remembered:
         return path
 
 
-def read_kept(path: Path, take: Callable[[Dict[str, Any]], None]) -> bool:
-    """Reads what is remembered of a working folder, and answers whether it is one."""
-    kept = path / OWN / "folder.json"
-    try:
-        take(json.loads(kept.read_text("utf-8")))
-        return True
-    except (FileNotFoundError, NotADirectoryError):
-        return False
-    except (ValueError, KeyError, TypeError, AttributeError) as error:
-        raise VaultError(f"{kept} can't be read: {error}. Move {path} away, and get the assembly again; then copy your changed files"
-                         " over it.") from error
-
-
 def is_safe(name: str) -> bool:
     """Whether a path is one of a working folder."""
-    return all(usable(part) for part in name.split("/"))
+    above, slash, own = name.rpartition("/")
+    return usable(own) and (not slash or is_safe_above(above))
+
+
+@functools.lru_cache(maxsize=4096)
+def is_safe_above(name: str) -> bool:
+    """The same of what files stand in, which is asked again for each of them."""
+    return is_safe(name)
 
 
 def is_entry(entry: Entry) -> bool:

@@ -1,8 +1,8 @@
 """Which part of a working folder is meant: all of it, a folder in it, or a file."""
 
 import os
-from dataclasses import dataclass
 from pathlib import Path
+from typing import NamedTuple
 
 from vault.errors import MisusedError
 from vault.files.text import shown
@@ -10,8 +10,7 @@ from vault.protocol.grammar import under
 from vault.working.folder import Folder
 
 
-@dataclass(frozen=True)
-class Scope:
+class Scope(NamedTuple):
     """A part of a working folder: its path in that, which is empty for the whole, and its place, which is empty if it has none."""
 
     name: str

@@ -1,7 +1,6 @@
 """What is told of a working folder: what was done with its files, and why some were left."""
 
 import contextlib
-from dataclasses import dataclass, field
 from typing import Dict, Iterable, Iterator, List, Optional, Sequence, Tuple
 
 from vault.errors import VaultError
@@ -16,7 +15,6 @@ NOT_COVERED = "no held check-out of yours takes it in"
 NAMED = 10
 
 
-@dataclass
 class Done:
     """What was done: the files, those that were drafts already, and those that were left, each with the reason; how many of these have
     bytes that are bad, or can't be read or written, and what else is to be known of a file; by check-out, one of these of which it has
@@ -24,18 +22,18 @@ class Done:
     and saved since; the places whose real names were put, each with the check-out; and whether there is more to put than the check-outs
     take."""
 
-    files: List[str] = field(default_factory=list)
-    drafts: List[str] = field(default_factory=list)
-    left: List[Tuple[str, str]] = field(default_factory=list)
-    failed: int = 0
-    told: List[Tuple[str, str]] = field(default_factory=list)
-    others: Dict[str, Tuple[str, str]] = field(default_factory=dict)
-    claims: List[str] = field(default_factory=list)
-    versions: int = 0
-    unread: Dict[str, Tuple[str, str]] = field(default_factory=dict)
-    saved_aside: List[Before] = field(default_factory=list)
-    named: Dict[str, str] = field(default_factory=dict)
-    more: bool = False
+    def __init__(self) -> None:
+        self.files: List[str] = []
+        self.drafts: List[str] = []
+        self.left: List[Tuple[str, str]] = []
+        self.told: List[Tuple[str, str]] = []
+        self.others: Dict[str, Tuple[str, str]] = {}
+        self.unread: Dict[str, Tuple[str, str]] = {}
+        self.claims: List[str] = []
+        self.saved_aside: List[Before] = []
+        self.named: Dict[str, str] = {}
+        self.failed = self.versions = 0
+        self.more = False
 
     @contextlib.contextmanager
     def told_with_errors(self) -> Iterator[None]:
