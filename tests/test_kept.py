@@ -617,7 +617,7 @@ class Modes(WithFolder):
     def test_a_gift(self) -> None:
         """A check-out that was given away makes files read-only, and one that was received makes them writable once status sees it."""
         self.vault("checkout", "w:" + PART)
-        self.vault("give", "c5", "ben")
+        self.vault("give", "c5", "ben", "--yes")
         self.assertEqual(self.writable(), [])
         self.client("ben").give("c5", "anna")
         self.assertEqual(self.writable(), [])
