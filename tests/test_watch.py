@@ -72,7 +72,7 @@ class Watch(WithVault):
         self.assertTrue((self.folder / "marks" / "vaultd.broken").read_text("utf-8").endswith("its server said ERR 82\n"))
         self.assertIn("is deaf, and isn't restarted", self.acted("act", "3")[1])
         mark = self.folder / "marks" / "vaultd.broken"
-        self.assertRegex(self.acted("act", "5")[1], rf"^vaultd.service isn't started: {mark} is there \(20.*Z its server said ERR 82\)\. Do as"
+        self.assertRegex(self.acted("act", "5")[1], rf"^vaultd.service isn't started while {mark} is there \(20.*Z its server said ERR 82\)\. Do as"
                                                     r' "A broken vault" in /usr/share/doc/vaultd/OPERATING.md says, and then remove that file\.\n$')
 
     def test_something_else(self) -> None:

@@ -49,6 +49,12 @@ def set_mark(mark: Path, reason: str) -> str:
     return f"The vault is broken ({reason}). Its server isn't started again while {mark} is there. {ADVICE}"
 
 
+def kept_down(unit: str, mark: Path) -> str:
+    """Says that a server isn't started, by which mark, and since when and why that is there: systemd says at a start that an assertion failed, and
+    not which."""
+    return f"{unit} isn't started while {mark} is there ({why(mark)}). {ADVICE}"
+
+
 def why(mark: Path) -> str:
     """What a mark says of when and why it was set."""
     try:
@@ -104,7 +110,7 @@ def act(unit: str, status: str, marks: Path) -> str:
     if status == str(STATUS[BROKEN]):
         return set_mark(mark, "its server said ERR 82")
     if status == str(STATUS[DOWN]) and mark.exists():
-        return f"{unit} isn't started: {mark} is there ({why(mark)}). {ADVICE}"
+        return kept_down(unit, mark)
     return act_on_deaf(unit, mark) if status == str(STATUS[DEAF]) else ""
 
 
@@ -120,10 +126,13 @@ def said_by(invocation: str) -> str:
 
 def ended(unit: str, invocation: str, marks: Path) -> str:
     """Marks a server that ended as broken if it had said `device fault`, but not where a file couldn't be opened, which breaks nothing;
-    answers what was done, or nothing."""
+    answers what was done, or that a mark is there, or nothing."""
     lines = said_by(invocation).splitlines()
     faults = [reason for line, reason in zip(lines, [*lines[1:], ""]) if line == DEVICE_FAULT and not NOT_OPENED.match(reason)]
-    return set_mark(mark_of(marks, unit), f"its server said `{DEVICE_FAULT}`") if faults else ""
+    mark = mark_of(marks, unit)
+    if faults:
+        return set_mark(mark, f"its server said `{DEVICE_FAULT}`")
+    return kept_down(unit, mark) if mark.exists() else ""
 
 
 def words() -> argparse.Namespace:
