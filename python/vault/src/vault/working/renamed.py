@@ -21,11 +21,11 @@ class Renamed:
         self.found: Dict[str, str] = {}
 
     @functools.cached_property
-    def missing(self) -> Dict[int, List[str]]:
-        """The files of parts that are missing here, by their sizes. A file without bytes can't be known by these."""
+    def by_size(self) -> Dict[int, List[str]]:
+        """The files of parts by their sizes, whether they are here or not. A file without bytes can't be known by these."""
         found: Dict[int, List[str]] = {}
         for name, entry in self.folder.files.items():
-            if entry.size and (entry.sha256 or entry.draft) and self.folder.seen(name) is None:
+            if entry.size and (entry.sha256 or entry.draft):
                 found.setdefault(UNKNOWN if entry.draft else entry.size, []).append(name)
         return found
 
@@ -33,14 +33,14 @@ class Renamed:
         """The file of a part that is missing here and had the bytes of a file that belongs to no part: one in the same folder, where there is one;
         nothing if there is none."""
         if name not in self.found:
-            self.found[name] = self._before(name) if self.missing else ""
+            self.found[name] = self._before(name)
         return self.found[name]
 
     def _before(self, name: str) -> str:
         seen = self.folder.seen(name)
         if seen is None or not stat.S_ISREG(seen.st_mode) or not seen.st_size:
             return ""
-        alike = self.missing.get(seen.st_size, []) + self.missing.get(UNKNOWN, [])
+        alike = [each for each in self.by_size.get(seen.st_size, []) + self.by_size.get(UNKNOWN, []) if self.folder.seen(each) is None]
         sha256 = sha256_of(self.folder, name) if alike else ""
         found = [each for each in alike if sha256 and sha256 in (self.folder.files[each].sha256, self.folder.files[each].draft)]
         return min(found, key=lambda each: (not is_beside(each, name), each), default="")
