@@ -1,5 +1,6 @@
 """A real browser for tests, headless, and a server of the pages that it is to open."""
 
+import contextlib
 import functools
 import http.server
 import shutil
@@ -114,3 +115,9 @@ class Browser:
         """The value of a JavaScript expression in the page, awaited if it is a promise."""
         script = f"const told = arguments[0]; Promise.resolve({expression}).then(told, error => told('failed: ' + error));"
         return self.driver.execute_async_script(script)
+
+    def now(self, expression: str) -> Any:
+        """The value of a JavaScript expression at once, and nothing while one page is left for another."""
+        with contextlib.suppress(WebDriverException):
+            return self.driver.execute_script("return " + expression)  # type: ignore[no-untyped-call]
+        return None

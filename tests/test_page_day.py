@@ -45,7 +45,7 @@ class Person:
 
     def words(self, selector: str) -> str:
         """The text of the first such element."""
-        return str(self.browser.value(f"document.querySelector({selector!r})?.innerText.replace(/\\s+/g, ' ').trim() ?? ''"))
+        return str(self.browser.now(f"document.querySelector({selector!r})?.innerText.replace(/\\s+/g, ' ').trim() ?? ''") or "")
 
     def shows(self, selector: str, words: str, seconds: float = 5.0) -> None:
         """Waits until such an element has these words."""
@@ -71,8 +71,13 @@ class Person:
 
     def send(self, act: str) -> None:
         """Sends a form off, and waits for what it came to."""
+        self.forget_told()
         self.form(act).find_element("css selector", "button").click()
         self.is_told()
+
+    def forget_told(self) -> None:
+        """Takes away what an act before came to: files are sent while the page stays."""
+        self.browser.value("document.querySelectorAll('.told').forEach(each => each.remove())")
 
     def form(self, act: str) -> WebElement:
         """The first form for an act."""
@@ -80,10 +85,11 @@ class Person:
 
     def is_told(self) -> None:
         """Waits until a page says what an act came to."""
-        until(lambda: bool(self.browser.value("document.readyState == 'complete' && !!document.querySelector('.told')")), 20)
+        until(lambda: bool(self.browser.now("document.readyState == 'complete' && !!document.querySelector('.told')")), 20)
 
     def press(self, words: str) -> None:
         """Presses a button with these words, and waits for what that came to."""
+        self.forget_told()
         self.press_at_once(words)
         self.is_told()
 
