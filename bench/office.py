@@ -2,8 +2,8 @@
 """What an office waits for: a folder of files in and out, a question, a check-out and a check-in of one part, by the client of this tree, by that
 of another tree, and by Subversion over svnserve, by turns.
 
-usage, at the top of the repository:  python3 bench/office.py [--program PROGRAM] [--folder FOLDER] [--before CLONE] [--files N] [--bytes N]
-                                      [--rounds N] [--port P] [--tiny]
+usage, at the top of the repository:  python3 bench/office.py [--program PROGRAM] [--folder FOLDER] [--before CLONE] [--files N] [--assemblies N]
+                                      [--bytes N] [--rounds N] [--port P] [--tiny]
 Each figure is the median of the rounds, the wall time of the commands as a shell has it. --before names a clone whose client does the same; it
 may have no `vault import`: then it does what its user had to do. Without svnserve, which Debian's package subversion has, its column is left out.
 """
@@ -19,7 +19,6 @@ import tomllib
 
 from measure import arguments, head, prepared, table
 
-ASSEMBLIES = 6
 # How many seconds a server has for its start.
 STARTED_WITHIN = 60
 STEPS = ("in", "out", "status", "mine", "who", "check-out of one", "check-in of one")
@@ -38,11 +37,11 @@ def timed(words, **more):
 def lay(folder, options):
     """Writes the files of an office."""
     chance = random.Random(1)
-    for number in range(ASSEMBLIES):
+    for number in range(options.assemblies):
         os.makedirs(os.path.join(folder, f"Baugruppe {number}"))
     for number in range(options.files):
         size = int(options.bytes / options.files * chance.uniform(0.2, 1.8))
-        with open(os.path.join(folder, f"Baugruppe {number % ASSEMBLIES}", f"Teil {number}.SLDPRT"), "wb") as file:
+        with open(os.path.join(folder, f"Baugruppe {number % options.assemblies}", f"Teil {number}.SLDPRT"), "wb") as file:
             file.write(chance.randbytes(size))
 
 
@@ -60,7 +59,7 @@ class Vault:
         subprocess.run([sys.executable, "-m", "compileall", "-qq", source], check=False)
         self.environment = {**os.environ, "PYTHONPATH": source, "XDG_STATE_HOME": state, "XDG_CACHE_HOME": state}
         self.said("hello", f"anna@127.0.0.1:{options.port}")
-        self.round = 0
+        self.round, self.assemblies = 0, options.assemblies
 
     def said(self, *words):
         """How long a command takes, begun as by the script of an installation."""
@@ -74,7 +73,7 @@ class Vault:
         """The times of one round: a folder goes in, comes out elsewhere, and one part is worked on."""
         self.round += 1
         place, work, out = f"/{os.path.basename(self.folder)}{self.round}", f"{self.folder}/in{self.round}", f"{self.folder}/out{self.round}"
-        names = [f"baugruppe_{number}" for number in range(ASSEMBLIES)]
+        names = [f"baugruppe_{number}" for number in range(self.assemblies)]
         if self.imports:
             shutil.copytree(files, work)
             times = [self.said("import", work, place, "--yes", "--in-parts")]
@@ -184,6 +183,7 @@ def main():
     parser = arguments("What an office waits for, by turns with another client and Subversion.")
     parser.add_argument("--before", default="", help="a clone whose client is measured, too")
     parser.add_argument("--files", type=int, default=300)
+    parser.add_argument("--assemblies", type=int, default=6, help="of at most 63 files each; a vault holds 4,096 places, all rounds together")
     parser.add_argument("--bytes", type=int, default=115_000_000, help="of all files")
     parser.add_argument("--rounds", type=int, default=3)
     parser.add_argument("--port", type=int, default=7171, help="of the vault's server; svnserve takes the next one")
@@ -192,7 +192,7 @@ def main():
         options.files, options.bytes, options.rounds = 12, 100_000, 1
     program, folder = prepared(options)
     folder = os.path.abspath(folder)
-    head(program, f"{options.files} files of {options.bytes:,} bytes in {ASSEMBLIES} assemblies, {options.rounds} rounds by turns")
+    head(program, f"{options.files} files of {options.bytes:,} bytes in {options.assemblies} assemblies, {options.rounds} rounds by turns")
     found = measured(folder, options, program)
     rows = []
     for number, step in enumerate(STEPS):
