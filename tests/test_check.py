@@ -43,8 +43,8 @@ class Check(Tries):
             "The vault has 1 places, 0 versions, 0 claims and 0 drafts.",
             "Of the claims 0 are held, and 0 wait."])
         self.same("limits", [line.split(",")[0].strip() for line in lines[6:]], [
-            "places: 1 of 4096", "projects: 0 of 64", "claims: 0 of 256", "versions: 0 of 65535", "weight: 0 of 16777216",
-            "check-outs: 0 of 4294967295"])
+            "places: 1 of 4096", "projects: 0 of 64", "places-beneath-one: 0 of 64", "claims: 0 of 256", "drafts-of-a-check-out: 0 of 64",
+            "versions: 0 of 65535", "weight: 0 of 16777216", "check-outs: 0 of 4294967295"])
         self.same("nothing is changed", held("a", "b"), [NEW, b""])
 
     def test_json(self) -> None:
@@ -67,7 +67,8 @@ class Check(Tries):
         names = ("places", "versions", "claims", "held", "waiting", "drafts", "weight", "generation", "version")
         self.same("figures", [found[name] for name in names], [4, 1, 2, 1, 1, 1, 19, 1, 2])
         self.same("limits", [(full["name"], full["used"]) for full in found["limits"]],
-                  [("places", 4), ("projects", 1), ("claims", 2), ("versions", 1), ("weight", 19), ("check-outs", 3)])
+                  [("places", 4), ("projects", 1), ("places-beneath-one", 1), ("claims", 2), ("drafts-of-a-check-out", 1), ("versions", 1),
+                   ("weight", 19), ("check-outs", 3)])
         server.kill()
         self.same("lengths", 24 + found["snapshot"] + found["journal"] + 1, len(content_of("a")))
         self.check("the same without the server", checked()[1] == found)

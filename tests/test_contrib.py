@@ -2,6 +2,7 @@
 
 import contextlib
 import io
+import json
 import os
 import re
 import shlex
@@ -287,6 +288,24 @@ class Contrib(unittest.TestCase):
         line = " ".join(f"'{word}'" for word in words)
         return self.said("bash", "-c", f"source '{CONTRIB}/completion/{script}'; COMP_WORDS=({line}); COMP_CWORD={len(words) - 1};"
                          f" {function}; printf '%s\\n' \"${{COMPREPLY[@]}}\"").split()
+
+    def test_limits(self) -> None:
+        """Each limit of the protocol stands in both manual pages, and what a vault's files show of them is named as `vaultd check` names it."""
+        told = re.search(r"\| 50 \| a limit: (.*?);", (TOP / "docs" / "PROTOCOL.md").read_text("utf-8"))
+        assert told is not None
+        limits = told[1].split(", ")
+        self.assertGreater(len(limits), 9)
+        sections = {}
+        for page in ("vault.1", "vaultd.8"):
+            text = (CONTRIB / "man" / page).read_text("utf-8")
+            sections[page] = " ".join(re.sub(r"(?m)^\.[A-Z]+ ", "", text[text.index(".SH LIMITS"):].split(".SH ")[1]).replace("\\", "").split())
+            self.assertEqual([limit for limit in limits if limit not in sections[page]], [], page)
+        with tempfile.TemporaryDirectory() as folder:
+            files = (os.path.join(folder, "a"), os.path.join(folder, "b"))
+            self.said(VAULTD, "create", *files)
+            found = json.loads(self.said(VAULTD, "check", "--json", *files))["limits"]
+        self.assertGreater(len(found), 7)
+        self.assertEqual([limit["name"] for limit in found if f"{limit['name']}" not in sections["vaultd.8"]], [])
 
     def test_completion(self) -> None:
         """That of vaultd; tests/test_completion.py has the client's."""

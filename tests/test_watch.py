@@ -222,7 +222,8 @@ class Metrics(WithVault):
         ben.checkout(["r:/engine"])
         found = self.figures()
         wanted = {"up": 1, "broken": 0, "check_ok": 1, "places": 4, "versions": 0, "drafts": 1, "claims": 2, "held": 1, "waiting": 1,
-                  "generation": 1, "weight": len(b"bore 80") + 8, "limit:places": 4096, "limit_used:places": 4}
+                  "generation": 1, "weight": len(b"bore 80") + 8, "limit:places": 4096, "limit_used:places": 4, "limit:places-beneath-one": 64,
+                  "limit_used:drafts-of-a-check-out": 1}
         self.assertEqual({name: found.get("vaultd_" + name) for name in wanted}, wanted)
         length = sum(5 + size for size in self.frames())
         self.assertEqual(found["vaultd_journal"], length)

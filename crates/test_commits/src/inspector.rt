@@ -42,6 +42,7 @@ const QUEUED_FIGURES: Figures = Figures {
     held: 1,
     waiting: 1,
     drafts: 1,
+    claim_drafts: 1,
     weight: 4 + 1 + 2 * 8,
     last_check_out: 3,
 };

@@ -1,6 +1,6 @@
 -- What is said of two files, and of a vault's limits. This project's own.
 use Rattle.std.specs.Prelude.{ℕ, ◌*◌, ◌/◌, Bool, ◌&&◌, nat_le, nat_lt, if◌then◌else◌, List, [], ◌∷◌, ◌++◌, codes, decimal, Option, None, Some}
-use Rattle.vault_state.specs.Limits.{most_places, most_children, most_claims, most_versions, most_weight, last_number}
+use Rattle.vault_state.specs.Limits.{most_places, most_children, most_claims, most_drafts, most_versions, most_weight, last_number}
 use Rattle.vault_store.specs.declared.opening.File.TheVariants.{First, Second}
 use Rattle.vault_store.specs.declared.opening.OpenError.{OpenError}
 use Rattle.vault_store.specs.declared.opening.OpenError.TheVariants as errors
@@ -10,13 +10,15 @@ use Rattle.vault_inspector.specs.declared.report.FileState.TheVariants.{Closed, 
 use Rattle.vault_inspector.specs.declared.figures.Figures.{Figures}
 use Rattle.vault_inspector.specs.declared.limits.Limit.{Limit}
 use Rattle.vault_inspector.specs.declared.limits.Limited.{Limited}
-use Rattle.vault_inspector.specs.declared.limits.Limited.TheVariants.{Places, Projects, Claims, Versions, Weight, CheckOuts}
+use Rattle.vault_inspector.specs.declared.limits.Limited.TheVariants.{Places, Projects, Children, Claims, Drafts, Versions, Weight, CheckOuts}
 
 -- the name of what is limited
 abbrev pub name_of : Limited → List ℕ
 name_of Places = codes "places"
 name_of Projects = codes "projects"
+name_of Children = codes "places-beneath-one"
 name_of Claims = codes "claims"
+name_of Drafts = codes "drafts-of-a-check-out"
 name_of Versions = codes "versions"
 name_of Weight = codes "weight"
 name_of CheckOuts = codes "check-outs"
@@ -29,12 +31,14 @@ per_cent_of used limit = if nat_lt used limit then used * 100 / limit else 100
 abbrev pub limit_of : Limited → ℕ → ℕ → Limit
 limit_of limited used limit = record { limited = limited; used = used; limit = limit; per_cent = per_cent_of used limit }
 
--- each limit that a vault's files show; for versions it is that of the part with the most
+-- each limit that a vault's files show; for versions it is that of the part with the most, and so it is with places beneath one and with drafts
 abbrev pub limits_of : Figures → List Limit
 limits_of figures =
     limit_of Places figures.places most_places
     ∷ limit_of Projects figures.projects most_children
+    ∷ limit_of Children figures.children most_children
     ∷ limit_of Claims figures.claims most_claims
+    ∷ limit_of Drafts figures.claim_drafts most_drafts
     ∷ limit_of Versions figures.part_versions most_versions
     ∷ limit_of Weight figures.weight most_weight
     ∷ limit_of CheckOuts figures.last_check_out last_number

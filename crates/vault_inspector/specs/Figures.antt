@@ -1,5 +1,5 @@
 -- How full a vault is: what is used of each limit that its files show. This project's own.
-use Rattle.std.specs.Prelude.{◌≡◌, ◌⊎◌, ℕ, ◌+◌, ◌<◌, ◌≤◌, Bool, true, false, List, length, Option, None, Some, sum_by, count_by}
+use Rattle.std.specs.Prelude.{◌≡◌, ◌⊎◌, ℕ, ◌+◌, ◌<◌, ◌≤◌, Bool, true, false, List, length, Option, None, Some, slice_get, sum_by, count_by}
 use Rattle.vault_state.specs.declared.claims.Claim.{Claim}
 use Rattle.vault_state.specs.declared.claims.Standing.{Standing}
 use Rattle.vault_state.specs.declared.claims.Standing.TheVariants.{Held, Queued}
@@ -51,6 +51,15 @@ pub record IsGreatest (figure : ℕ → ℕ) (count greatest : ℕ) : Type 0 whe
 abbrev pub children_at : Vault → ℕ → ℕ
 children_at v place = length (children_of v.tree place)
 
+-- how many drafts a claim has that is, or isn't, there
+abbrev pub drafts_of_one : List SavedDraft → Option Claim → ℕ
+drafts_of_one drafts (Some c) = own_drafts drafts c.id
+drafts_of_one drafts None = 0
+
+-- how many drafts the claim at a position of the queue has
+abbrev pub drafts_at : Vault → ℕ → ℕ
+drafts_at v position = drafts_of_one v.drafts (slice_get v.line position)
+
 -- how many versions a place has
 abbrev pub versions_at : Vault → ℕ → ℕ
 versions_at v place = length (versions_of v.shelf place)
@@ -66,6 +75,7 @@ pub record AreFigures (v : Vault) (figures : Figures) : Type 0 where
   pub held : figures.held ≡ standing_count true v
   pub waiting : figures.waiting ≡ standing_count false v
   pub drafts : figures.drafts ≡ draft_count v
+  pub claim_drafts : IsGreatest (drafts_at v) (length v.line) figures.claim_drafts
   pub weight : figures.weight ≡ weight v.shelf + draft_weight v
   pub last_check_out : figures.last_check_out ≡ v.last_long
 

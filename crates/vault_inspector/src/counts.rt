@@ -20,8 +20,8 @@ pub(crate) fn version_count<A: Allocator + Copy>(book: &Book<A>) -> usize
     total
 }
 
-// How many drafts a claim has.
-fn own_drafts<A: Allocator + Copy>(book: &Book<A>, id: ClaimId) -> usize
+/// How many drafts a claim has.
+pub(crate) fn own_drafts<A: Allocator + Copy>(book: &Book<A>, id: ClaimId) -> usize
     ensures { result ≡ own_drafts book.now.drafts id }
 {
     match id {

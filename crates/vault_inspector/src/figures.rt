@@ -2,11 +2,11 @@
 ghost use Rattle.std.specs.Prelude.{◌≡◌, ◌+◌, ◌<◌, ◌≤◌, IfOk, length};
 ghost use Rattle.vault_state.specs.Limits.{most_weight};
 ghost use Rattle.vault_state.specs.Shelf.{drafts_weight, weight};
-ghost use Rattle.vault_inspector.specs.Figures.{AreFigures, IsGreatest, children_at, draft_weight, own_weight, stands, standing_count, versions_at};
+ghost use Rattle.vault_inspector.specs.Figures.{AreFigures, IsGreatest, children_at, draft_weight, drafts_at, own_weight, stands, standing_count, versions_at};
 ghost use Rattle.vault_state.specs.Claims.{standing_of};
 
 use crate::claims::{claim_at, standing_in};
-use crate::counts::{draft_count, version_count};
+use crate::counts::{draft_count, own_drafts, version_count};
 use std::alloc::Allocator;
 use vault_checkout::Book;
 use vault_model::{ClaimId, DraftIn, EXTRA_WEIGHT, NoMemory, PlaceId, Standing};
@@ -26,6 +26,8 @@ pub struct Figures {
     pub held: usize,
     pub waiting: usize,
     pub drafts: u128,
+    /// The most drafts of one check-out.
+    pub claim_drafts: usize,
     /// What all versions and drafts weigh.
     pub weight: usize,
     /// The last number given to a check-out, or 0.
@@ -132,6 +134,20 @@ fn most_versions<A: Allocator + Copy>(book: &Book<A>) -> u32
     most
 }
 
+// The most drafts of one check-out.
+fn most_drafts<A: Allocator + Copy>(book: &Book<A>) -> usize
+    ensures { IsGreatest (drafts_at book.now) (length book.now.line) result }
+{
+    let mut most = 0;
+    for position in 0..book.line().len() {
+        let count = own_drafts(book, claim_at(book, position).id);
+        if count > most {
+            most = count;
+        }
+    }
+    most
+}
+
 /// A vault's figures. The work grows with its places and claims. It takes memory for the numbers of one place's children at a time.
 pub fn figures_of<A: Allocator + Copy>(book: &Book<A>) -> Result<Figures, NoMemory>
     ensures { IfOk result (λ figures. AreFigures book.now figures) }
@@ -146,6 +162,7 @@ pub fn figures_of<A: Allocator + Copy>(book: &Book<A>) -> Result<Figures, NoMemo
         held: standing_count(book, true),
         waiting: standing_count(book, false),
         drafts: draft_count(book),
+        claim_drafts: most_drafts(book),
         weight: book.shelf().weight() + draft_weight(book),
         last_check_out: book.line().last_long(),
     })

@@ -4,14 +4,20 @@ ghost use Rattle.vault_inspector.specs.Checks.{limit_of, limit_text, limits_of, 
 
 use crate::Figures;
 use std::fmt;
-use vault_model::{LAST_NUMBER, MAX_CHILDREN, MAX_CLAIMS, MAX_PLACES, MAX_VERSIONS, MAX_WEIGHT};
+use vault_model::{
+    LAST_NUMBER, MAX_CHILDREN, MAX_CLAIMS, MAX_DRAFTS, MAX_PLACES, MAX_VERSIONS, MAX_WEIGHT,
+};
 
 /// What is limited.
 #[derive(Clone, Copy, Debug, PartialEq, Eq)]
 pub enum Limited {
     Places,
     Projects,
+    /// The places right beneath the place that has the most.
+    Children,
     Claims,
+    /// The drafts of the check-out that has the most.
+    Drafts,
     /// The versions of the part that has the most.
     Versions,
     Weight,
@@ -27,7 +33,9 @@ impl Limited {
         match self {
             Limited::Places => "places",
             Limited::Projects => "projects",
+            Limited::Children => "places-beneath-one",
             Limited::Claims => "claims",
+            Limited::Drafts => "drafts-of-a-check-out",
             Limited::Versions => "versions",
             Limited::Weight => "weight",
             Limited::CheckOuts => "check-outs",
@@ -88,13 +96,15 @@ fn limit_of(limited: Limited, used: u64, limit: u64) -> Limit
 
 impl Figures {
     /// Each limit that a vault's files show, with what is used of it.
-    pub fn limits(&self) -> [Limit; 6]
+    pub fn limits(&self) -> [Limit; 8]
         ensures { result ≡ limits_of self.now }
     {
         [
             limit_of(Limited::Places, self.places as u64, MAX_PLACES as u64),
             limit_of(Limited::Projects, self.projects as u64, MAX_CHILDREN as u64),
+            limit_of(Limited::Children, self.children as u64, MAX_CHILDREN as u64),
             limit_of(Limited::Claims, self.claims as u64, MAX_CLAIMS as u64),
+            limit_of(Limited::Drafts, self.claim_drafts as u64, MAX_DRAFTS as u64),
             limit_of(
                 Limited::Versions,
                 u64::from(self.part_versions),
