@@ -108,7 +108,7 @@ class Memory:
             raise VaultError(f"The file {self.path} can't be read. It keeps copies of drafts, so move it away"
                              " rather than delete it, and run the command again.") from error
 
-    def save(self, at_once: bool = True) -> None:
+    def save(self) -> None:
         """Puts the file on disk, whole or not at all, if it isn't there as it is already."""
         kept = {
             "last_number": self.last_number,
@@ -122,7 +122,7 @@ class Memory:
         }
         content = json.dumps(kept, indent=1).encode("utf-8")
         if content != self.saved:
-            write_whole(self.path, content, at_once=at_once)
+            write_whole(self.path, content)
             self.saved = content
 
     def confirmed_elsewhere(self, designer: str, address: str) -> Optional[str]:
@@ -148,9 +148,9 @@ class Memory:
             raise
 
     def end(self) -> None:
-        """Forgets the command under way, since what became of it is known. If a power cut undoes that, it is found out once more."""
+        """Forgets the command under way, since what became of it is known."""
         self.under_way = None
-        self.save(at_once=False)
+        self.save()
 
     def saw(self, reply: Reply) -> None:
         """Keeps the greatest number of a check-out that the server ever named."""

@@ -41,7 +41,7 @@ class Lock:
         os.close(self.descriptor)
 
 
-class LibrarysLock(Lock):
+class LibraryLock(Lock):
     """The same where the system has no flock. The library is loaded only there: it takes longer than a question to a server."""
 
     lock: Any = None
@@ -65,7 +65,7 @@ class LibrarysLock(Lock):
 
 def lock_at(path: Path) -> Lock:
     """A lock on a file, as this system has it."""
-    return LibrarysLock(path) if fcntl is None else Lock(path)
+    return LibraryLock(path) if fcntl is None else Lock(path)
 
 
 def no_locks(path: Path, reason: str) -> VaultError:

@@ -33,16 +33,15 @@ def end(file: IO[bytes]) -> Path:
     return Path(file.name)
 
 
-def write_whole(path: Path, content: bytes, mode: int = 0o600, at_once: bool = True) -> None:
-    """Writes a file with these rights beside its place, puts it on disk and then into its place, where it is on disk at once, too, unless the one
-    before is as good there behind a power cut."""
+def write_whole(path: Path, content: bytes, mode: int = 0o600) -> None:
+    """Writes a file with these rights beside its place, puts it on disk and then into its place. On a disk without a journal the one before may be
+    neither there nor whole behind a power cut until that is on disk, too."""
     with new_file(path.parent, f".{path.name}.", 0o600) as file:
         if mode != 0o600:
             os.chmod(file.name, mode)
         file.write(content)
         replace(end(file), path)
-    if at_once:
-        sync_folder(path.parent)
+    sync_folder(path.parent)
 
 
 def give_new_name(came: Path, path: Path) -> None:

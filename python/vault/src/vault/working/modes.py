@@ -23,7 +23,7 @@ def settle_folders(client: Client, folders: Sequence[str]) -> None:
                 if folder is not None and is_at(folder, client):
                     with folder.locked():
                         if settle_modes(folder, claims):
-                            folder.save(at_once=False)
+                            folder.save()
 
 
 def settle_modes(folder: Folder, claims: Dict[str, Sequence[str]]) -> bool:

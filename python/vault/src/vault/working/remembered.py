@@ -128,7 +128,7 @@ class Remembered:
             if own.is_dir() and os.path.realpath(own) == os.path.join(os.path.realpath(self.path), *own.relative_to(self.path).parts):
                 yield own
 
-    def save(self, at_once: bool = True) -> None:
+    def save(self) -> None:
         """Puts what is remembered on disk, behind the files that it is about."""
         began = time.monotonic()
         while self.unsynced:
@@ -139,7 +139,7 @@ class Remembered:
                 "keep_days": self.keep_days, "writable": self.writable, "files": {name: vars(entry) for name, entry in sorted(self.files.items())}}
         content = json.dumps(kept).encode("utf-8")
         if content != self.saved:
-            write_whole(self._real(self.path / OWN) / "folder.json", content, at_once=at_once)
+            write_whole(self._real(self.path / OWN) / "folder.json", content)
             self.saved = content
         self.saved_at = time.monotonic()
         self.save_took = self.saved_at - began
@@ -186,7 +186,7 @@ def is_safe(name: str) -> bool:
 @functools.lru_cache(maxsize=4096)
 def is_safe_above(name: str) -> bool:
     """The same of what files stand in, which is asked again for each of them."""
-    return is_safe(name)
+    return all(usable(part) for part in name.split("/"))
 
 
 def is_entry(entry: Entry) -> bool:
