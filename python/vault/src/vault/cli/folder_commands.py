@@ -114,7 +114,7 @@ def status(client: Client, words: StatusWords, output: Output) -> Told:
     fields = {"place": scope.place or folder.place, "files": [state._asdict() for state in files], "others": others,
               "saved_aside": [each.fields() for each in saved_aside],
               "new": [{"place": place, "version": number} for place, number in new.items()],
-              "renamed": {name: before for name in others if (before := renamed.renamed(name))}}
+              "renamed": {name: before for name in others if name[-1] != "/" and (before := renamed.renamed(name))}}
     return "\n".join(told or [f"Nothing is changed in {words.folder}, and nothing is newer in the vault."]), fields
 
 
