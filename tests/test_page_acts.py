@@ -10,6 +10,7 @@ import tempfile
 import time
 import unittest
 import zipfile
+from concurrent.futures import ThreadPoolExecutor
 from pathlib import Path
 from typing import Dict, List, Tuple
 from unittest import mock
@@ -118,6 +119,16 @@ class Acts(WithActs):
                             ("/engine%0d%0aX: 1", "/.mine"), ("/.act/abandon", "/.mine")):
             status, headers, _ = self.page.ask("anna", "/.act/make", "POST", (form + back).encode(), Origin="http://127.0.0.1", Content_Type=FORM)
             self.assertEqual((back, status, headers["location"].partition("?")[0], headers.get("x")), (back, 303, leads, None))
+
+    def test_a_double_click(self) -> None:
+        """A form that is sent twice at once is done once; the same one of another page is done again."""
+        for claim in ("c2", "c3"):
+            form = f"token={self.page.token('anna')}&place={PART}&mode=r".encode()
+            with ThreadPoolExecutor(4) as pool:
+                sent = [pool.submit(self.page.ask, "anna", "/.act/checkout", "POST", form, Origin="http://127.0.0.1", Content_Type=FORM)
+                        for _ in range(4)]
+                self.assertEqual({self.page.told("anna", each.result()[1]["location"]) for each in sent}, {f"{claim} is held."})
+        self.assertEqual([claim.claim for claim in self.anna.holders(PART)], ["c2", "c3"])
 
     def test_what_others_are_told(self) -> None:
         """What an act came to is told to who did it alone."""

@@ -131,9 +131,13 @@ class Browsing(WithOffice):
         self.assertFalse(self.browser.value(f"document.getElementById({json.dumps(shut)}).parentElement.open"))
 
     def test_to_the_tree(self) -> None:
-        """Two keys lead past the claims to the tree, however many these are."""
-        self.fill()
+        """Two keys lead past the claims to the tree, however many these are. The picture is README's."""
+        self.office.build()
         self.open("/")
+        self.office.work(0)
+        self.shows("#tally", "12 waiting", 10)
+        self.browser.show(1280, 800)
+        self.browser.picture(PICTURES / "first-1280.png")
         for expected in ("To the content", "To the tree"):
             self.browser.driver.switch_to.active_element.send_keys("\ue004")
             self.assertEqual(self.browser.value("document.activeElement.innerText"), expected)

@@ -28,6 +28,7 @@ FIELDS = 16
 AT_ONCE = 4
 UPLOADS_AT_ONCE = 32
 TOLD_KEPT = 1024
+TWICE_SECONDS = 5.0
 UPLOAD, FILE, ZIP = "/.act/upload", "/.file", "/.zip"
 KEPT_BY_BROWSER = {**HEADERS, "Content-Security-Policy": "default-src 'none'; sandbox", "Content-Type": "application/octet-stream",
                    "Cache-Control": NOT_KEPT}
@@ -43,6 +44,8 @@ class SignedIn:
         self.downloading: Counter[str] = Counter()
         # What acts came to, by numbers that pages are asked with right after them.
         self.told: OrderedDict[tuple[str, str], Told] = OrderedDict()
+        # The forms that were sent last, when, and what becomes of them.
+        self.sent: OrderedDict[tuple[object, ...], tuple[float, asyncio.Future[Told]]] = OrderedDict()
 
     async def answer(self, request: web.BaseRequest) -> web.StreamResponse:
         """Answers any request."""
@@ -95,8 +98,20 @@ class SignedIn:
         form = await self._form(request)
         self._look_at_token(form.get("token", ""), name)
         done = act
-        told = await self._outcome(self.acting.perform(name, lambda client: done(self.acting, client, form)))
+        sent = (name, path, *sorted(form.items()))
+        told = await self._once(sent, lambda: self.acting.perform(name, lambda client: done(self.acting, client, form)))
         return self._lead_back(name, form.get("back", ""), told)
+
+    async def _once(self, form: tuple[object, ...], act: Callable[[], Awaitable[str]]) -> Told:
+        """What an act comes to. A form that is sent twice, as by a double click, is one: each page's forms have a token of their own."""
+        loop = asyncio.get_running_loop()
+        begun, outcome = self.sent.get(form, (0.0, None))
+        if outcome is None or outcome.done() and loop.time() - begun > TWICE_SECONDS:
+            outcome = asyncio.ensure_future(self._outcome(act()))
+            self.sent[form] = loop.time(), outcome
+            while len(self.sent) > TOLD_KEPT:
+                self.sent.popitem(last=False)
+        return await asyncio.shield(outcome)
 
     async def _form(self, request: web.BaseRequest) -> dict[str, str]:
         """The fields of a small form."""
