@@ -1,6 +1,7 @@
 -- What a connection of a reader and a writer comes to.
 use Rattle.std.proofs.Common.{◌≡◌, ℕ, List, [], Option, sym, subst, inl}
 use Rattle.std.proofs.KnownBytes.{Appends-nil}
+use Rattle.line_inlet.specs.Reading.{Reading}
 use Rattle.vault_desk.specs.Serving.{HeardAll, WritesAll}
 use Rattle.vault_desk.specs.declared.report.Out.{Out}
 use Rattle.vault_desk.specs.declared.report.Ended.{Ended}
@@ -9,7 +10,7 @@ use Rattle.vault_desk.proofs.Heard.{hears_nothing, hears_end}
 use Rattle.vault_desk.proofs.Told.{not_ended_left}
 
 -- where nothing was heard and nothing written, memory may have been refused
-pub none_heard : {A : Type 0} (a b : Option (List ℕ)) (outs : List (Out A)) → outs ≡ [] → b ≡ a → HeardAll a b outs ends.NoMemory
+pub none_heard : {A : Type 0} (a b : Reading) (outs : List (Out A)) → outs ≡ [] → b ≡ a → HeardAll a b outs ends.NoMemory
 none_heard a b outs none same = subst (λ r. HeardAll a r outs ends.NoMemory) (sym same) (hears_end a a _ outs ends.NoMemory (hears_nothing a outs none) (λ given left. tt))
 
 pub none_written : {A : Type 0} (a b : Option (List ℕ)) (outs : List (Out A)) → outs ≡ [] → b ≡ a → WritesAll ends.NoMemory a b outs

@@ -1,4 +1,5 @@
 //! A separate reader and writer, as a connection.
+ghost use Rattle.line_inlet.specs.Reading.{to_come};
 
 use line_inlet::Connection;
 use std::io::{self, Read, Write};
@@ -15,12 +16,13 @@ pub(crate) struct Joined<'a, 'b, R, W> {
 }
 
 impl<R: Read, W: Write> Connection for Joined<'_, '_, R, W> {
-    ghost remaining = { λ j. R.remaining j.ear.reader.now };
+    ghost reading = { λ j. to_come (R.remaining j.ear.reader.now) };
 
     ghost contents = { λ j. W.contents j.writer.now };
 
     ghost names = { λ j. (j.ear.reader.ghost_name, j.writer.ghost_name) };
 
+    #[tactic(auto, using(line_inlet::proofs::Readings::of_reader))]
     fn read(&mut self, buf: &mut [u8]) -> io::Result<usize> {
         self.ear.reader.read(buf)
     }

@@ -1,5 +1,6 @@
 //! A worker serves one connection.
 ghost use Rattle.std.specs.Prelude.{◌≡◌, ◌≤◌, length, true};
+ghost use Rattle.line_inlet.specs.Reading.{to_come};
 ghost use Rattle.vault_sessions.specs.Sights.{seen_by};
 ghost use Rattle.vault_sessions.specs.Serving.{AreSeen, most_lines, HeardAll, SpeaksFor, CountsAll, WritesAll, QuitsBy};
 
@@ -47,7 +48,7 @@ pub fn serve_one<
     writer: &mut W,
     share: Share<S, T>,
 ) -> Report<S, T, A>
-    ensures heard { HeardAll (R.remaining reader.old) (R.remaining reader.new) result.outs.items result.ended }
+    ensures heard { HeardAll (to_come (R.remaining reader.old)) (to_come (R.remaining reader.new)) result.outs.items result.ended }
     ensures few { length result.outs.items ≤ most_lines }
     ensures spoken { SpeaksFor 0 result.outs.items }
     ensures told { AreSeen (seen_by result.sight) result.outs.items }
@@ -90,7 +91,7 @@ fn serve_heard<
     share: Share<S, T>,
 ) -> (Ear<'x, R>, Report<S, T, A>)
     ensures back { result.0.reader.ghost_name ≡ ear.entry.reader.ghost_name }
-    ensures heard { HeardAll (R.remaining ear.entry.reader.now) (R.remaining result.0.reader.now) result.1.outs.items result.1.ended }
+    ensures heard { HeardAll (to_come (R.remaining ear.entry.reader.now)) (to_come (R.remaining result.0.reader.now)) result.1.outs.items result.1.ended }
     ensures few { length result.1.outs.items ≤ most_lines }
     ensures spoken { SpeaksFor 0 result.1.outs.items }
     ensures told { AreSeen (seen_by result.1.sight) result.1.outs.items }

@@ -8,6 +8,7 @@ use Rattle.std.proofs.lemmas.List.Elements.{All-append, All-from_get_or}
 use Rattle.memchr.specs.Find.{IsFirstByte, is_byte}
 use Rattle.vault_lines.specs.Limits.{longest_line}
 use Rattle.line_inlet.specs.Inflow.{Inflow}
+use Rattle.line_inlet.specs.Reading.{Reading}
 use Rattle.line_inlet.specs.Incoming.{most_bytes, IsOneLine, KeepsLine, CutsLine, TakesPiece, GivesPiece}
 use Rattle.line_inlet.specs.declared.inlet.Piece.{Piece}
 use Rattle.line_inlet.specs.declared.inlet.Piece.TheVariants as pieces
@@ -175,7 +176,7 @@ moved_cut old mid new given piece pending taken cut = record {
 }
 
 -- a piece of what waits after a read is a piece of what was pending and given
-pub gives_read : (old mid new : Inflow) (given so_far kept : List ℕ) (was_long : Bool) (piece : Piece) (rest : Option (List ℕ))
+pub gives_read : (old mid new : Inflow) (given so_far kept : List ℕ) (was_long : Bool) (piece : Piece) (rest : Reading)
     → mid.pending ≡ old.pending ++ given → mid.taken ≡ old.taken
     → TakesPiece mid so_far piece kept new → GivesPiece old given so_far was_long piece kept new rest
 gives_read old mid new given so_far kept was_long pieces.Whole rest pending taken takes =

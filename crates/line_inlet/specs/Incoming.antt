@@ -1,8 +1,9 @@
 -- Bytes and lines as they come from a reader. This project's own.
-use Rattle.std.specs.Prelude.{◌≡◌, ◌≢◌, ℕ, ◌+◌, ◌<◌, ◌≤◌, Bool, true, false, List, [], ◌∷◌, ◌++◌, length, take, Option, All}
-use Rattle.std.specs.Io.KnownBytes.{Consumes, Keeps, IsAtEnd}
+use Rattle.std.specs.Prelude.{◌≡◌, ◌≢◌, ℕ, ◌+◌, ◌<◌, ◌≤◌, Bool, true, false, List, [], ◌∷◌, ◌++◌, length, take, All}
+use Rattle.std.specs.Io.KnownBytes.{IsAtEnd}
 use Rattle.vault_lines.specs.Limits.{longest_line}
 use Rattle.line_inlet.specs.Inflow.{Inflow}
+use Rattle.line_inlet.specs.Reading.{Reading, Gave, GaveNone}
 use Rattle.line_inlet.specs.declared.inlet.NextByte.{NextByte}
 use Rattle.line_inlet.specs.declared.inlet.NextByte.TheVariants as bytes
 use Rattle.line_inlet.specs.declared.inlet.NextLine.{NextLine}
@@ -33,10 +34,10 @@ abbrev pub IsOneLine : List ℕ → Type 0
 IsOneLine line = All (λ b. b ≢ 10) line
 
 -- the next byte of those that were pending and those that were given since
-abbrev pub GivesByte : Inflow → List ℕ → NextByte → Inflow → Option (List ℕ) → Type 0
+abbrev pub GivesByte : Inflow → List ℕ → NextByte → Inflow → Reading → Type 0
 GivesByte old given (bytes.Byte b) new rest =
     (old.pending ++ given ≡ b ∷ new.pending) × (new.taken ≡ old.taken + 1) × (new.taken ≤ most_bytes)
-GivesByte old given bytes.End new rest = (old.pending ++ given ≡ []) × IsAtEnd rest
+GivesByte old given bytes.End new rest = (old.pending ++ given ≡ []) × IsAtEnd rest.ahead
 GivesByte old given bytes.Fault new rest = Unit {0}
 GivesByte old given bytes.Limit new rest = most_bytes < old.taken + length (old.pending ++ given)
 GivesByte old given bytes.NotYet new rest = (new.pending ≡ old.pending ++ given) × (new.taken ≡ old.taken)
@@ -54,12 +55,12 @@ pub record CutsLine (old : Inflow) (given line : List ℕ) (new : Inflow) : Type
   pub within : new.taken ≤ most_bytes
 
 -- The next line of those bytes. Its first bytes, the part, came before. If it isn't whole, what came of it is kept.
-abbrev pub GivesLine : Inflow → List ℕ → List ℕ → NextLine → List ℕ → Bool → Inflow → Option (List ℕ) → Type 0
+abbrev pub GivesLine : Inflow → List ℕ → List ℕ → NextLine → List ℕ → Bool → Inflow → Reading → Type 0
 GivesLine old given part lines.Whole line is_long new rest =
     (piece : List ℕ) × CutsLine old given piece new × (line ≡ part ++ piece) × (length line ≤ longest_line)
 GivesLine old given part lines.TooLong line is_long new rest =
     (piece : List ℕ) × CutsLine old given piece new × (longest_line < length (part ++ piece))
-GivesLine old given part lines.End line is_long new rest = IsOneLine (old.pending ++ given) × IsAtEnd rest
+GivesLine old given part lines.End line is_long new rest = IsOneLine (old.pending ++ given) × IsAtEnd rest.ahead
 GivesLine old given part lines.Fault line is_long new rest = Unit {0}
 GivesLine old given part lines.Limit line is_long new rest = most_bytes < old.taken + length (old.pending ++ given)
 GivesLine old given part lines.NotYet line is_long new rest =
@@ -67,16 +68,16 @@ GivesLine old given part lines.NotYet line is_long new rest =
     × (new.taken ≡ old.taken + length piece) × (new.taken ≤ most_bytes)
 
 -- a read gave the first bytes of the chunk, none only at the end; or it consumed nothing
-abbrev pub ReadsChunk : Option (List ℕ) → Option (List ℕ) → List ℕ → Given → Type 0
+abbrev pub ReadsChunk : Reading → Reading → List ℕ → Given → Type 0
 ReadsChunk old new chunk (reads.Bytes count) =
-    (count ≤ length chunk) × (count ≤ chunk_size) × Consumes old new (take count chunk) × (count ≡ 0 → IsAtEnd new)
-ReadsChunk old new chunk reads.NotYet = Keeps old new
-ReadsChunk old new chunk reads.Fault = Keeps old new
+    (count ≤ length chunk) × (count ≤ chunk_size) × Gave old new (take count chunk) × (count ≡ 0 → IsAtEnd new.ahead)
+ReadsChunk old new chunk reads.NotYet = GaveNone old new
+ReadsChunk old new chunk reads.Fault = GaveNone old new
 
 -- bytes wait now, or none is left, or none came and nothing changed
-abbrev pub Fills : Inflow → List ℕ → Filled → Inflow → Option (List ℕ) → Type 0
+abbrev pub Fills : Inflow → List ℕ → Filled → Inflow → Reading → Type 0
 Fills old given filled.Waiting new rest = (new.pending ≡ old.pending ++ given) × (0 < length new.pending) × (new.taken ≡ old.taken)
-Fills old given filled.End new rest = (old.pending ++ given ≡ []) × IsAtEnd rest
+Fills old given filled.End new rest = (old.pending ++ given ≡ []) × IsAtEnd rest.ahead
 Fills old given filled.Fault new rest = Unit {0}
 Fills old given filled.NotYet new rest = (old.pending ≡ []) × (given ≡ []) × (new ≡ old) × (new.taken ≤ most_bytes)
 
@@ -107,7 +108,7 @@ TakesMore old (pieces.More is_long) new = (old.taken < new.taken) × (new.taken 
 TakesMore old _ new = Unit {0}
 
 -- the same for what was pending and what a read gave; if that was nothing, the line so far stays, and whether it is too long
-abbrev pub GivesPiece : Inflow → List ℕ → List ℕ → Bool → Piece → List ℕ → Inflow → Option (List ℕ) → Type 0
+abbrev pub GivesPiece : Inflow → List ℕ → List ℕ → Bool → Piece → List ℕ → Inflow → Reading → Type 0
 GivesPiece old given so_far was_long pieces.Whole kept new rest =
     (piece : List ℕ) × CutsLine old given piece new × KeepsLine (so_far ++ piece) kept false
 GivesPiece old given so_far was_long pieces.TooLong kept new rest =
@@ -115,7 +116,7 @@ GivesPiece old given so_far was_long pieces.TooLong kept new rest =
 GivesPiece old given so_far was_long (pieces.More is_long) kept new rest =
     IsOneLine (old.pending ++ given) × (new.pending ≡ []) × KeepsLine (so_far ++ (old.pending ++ given)) kept is_long
     × (new.taken ≡ old.taken + length (old.pending ++ given)) × (new.taken ≤ most_bytes)
-GivesPiece old given so_far was_long pieces.End kept new rest = (old.pending ++ given ≡ []) × IsAtEnd rest
+GivesPiece old given so_far was_long pieces.End kept new rest = (old.pending ++ given ≡ []) × IsAtEnd rest.ahead
 GivesPiece old given so_far was_long pieces.Fault kept new rest = Unit {0}
 GivesPiece old given so_far was_long pieces.Limit kept new rest = most_bytes < old.taken + length (old.pending ++ given)
 GivesPiece old given so_far was_long pieces.NotYet kept new rest =

@@ -1,2 +1,3 @@
 pub mod Inflow
+pub mod Reading
 pub mod Incoming

@@ -1,9 +1,9 @@
 //! Bytes and lines from a connection, within bounds.
 
 ghost use Rattle.std.specs.Prelude.{◌≡◌, ◌+◌, ◌≤◌, ◌<◌, List, ℕ, [], ◌∷◌, ◌++◌, length, take, true, vec_capacity};
-ghost use Rattle.std.specs.Io.KnownBytes.{Consumes, IsAtEnd};
 ghost use Rattle.vault_lines.specs.Limits.{longest_line};
 ghost use Rattle.line_inlet.specs.Inflow.{Inflow};
+ghost use Rattle.line_inlet.specs.Reading.{Gave};
 ghost use Rattle.line_inlet.specs.Incoming.{most_bytes, most_reads, GivesByte, GivesLine, GivesPiece, KeepsLine, ReadsChunk, Fills, TakesByte, TakesMore, TakesPiece};
 
 use crate::connection::Connection;
@@ -112,8 +112,8 @@ impl Inlet {
 
     /// The next byte. A read that is interrupted is tried again, and counts among the reads.
     pub fn next_byte<C: Connection>(&mut self, connection: &mut C) -> NextByte
-        ensures given { (given : List ℕ) × Consumes (C.remaining connection.old) (C.remaining connection.new) given
-            × GivesByte self.old given result self.new (C.remaining connection.new) }
+        ensures given { (given : List ℕ) × Gave (C.reading connection.old) (C.reading connection.new) given
+            × GivesByte self.old given result self.new (C.reading connection.new) }
         ensures same { (C.contents connection.new ≡ C.contents connection.old) × (C.names connection.new ≡ C.names connection.old) }
     {
         match self.fill(connection) {
@@ -126,8 +126,8 @@ impl Inlet {
 
     // Reads if no bytes wait.
     fn fill<C: Connection>(&mut self, connection: &mut C) -> Filled
-        ensures given { (given : List ℕ) × Consumes (C.remaining connection.old) (C.remaining connection.new) given
-            × Fills self.old given result self.new (C.remaining connection.new) }
+        ensures given { (given : List ℕ) × Gave (C.reading connection.old) (C.reading connection.new) given
+            × Fills self.old given result self.new (C.reading connection.new) }
         ensures same { (C.contents connection.new ≡ C.contents connection.old) × (C.names connection.new ≡ C.names connection.old) }
     {
         if self.at < self.end {
@@ -205,8 +205,8 @@ impl Inlet {
         requires room { longest_line ≤ vec_capacity line.old }
         ensures room { vec_capacity line.old ≤ vec_capacity line.new }
         ensures given { (so_far : List ℕ) → KeepsLine so_far line.old.items is_long
-            → (given : List ℕ) × Consumes (C.remaining connection.old) (C.remaining connection.new) given
-            × GivesPiece self.old given so_far is_long result line.new.items self.new (C.remaining connection.new) }
+            → (given : List ℕ) × Gave (C.reading connection.old) (C.reading connection.new) given
+            × GivesPiece self.old given so_far is_long result line.new.items self.new (C.reading connection.new) }
         ensures more { TakesMore self.old result self.new }
         ensures same { (C.contents connection.new ≡ C.contents connection.old) × (C.names connection.new ≡ C.names connection.old) }
     {
@@ -228,8 +228,8 @@ impl Inlet {
     ) -> NextLine
         requires { longest_line ≤ vec_capacity line.old }
         ensures line { (part : List ℕ) → KeepsLine part line.old.items is_long.old
-            → (given : List ℕ) × Consumes (C.remaining connection.old) (C.remaining connection.new) given
-            × GivesLine self.old given part result line.new.items is_long.new self.new (C.remaining connection.new) }
+            → (given : List ℕ) × Gave (C.reading connection.old) (C.reading connection.new) given
+            × GivesLine self.old given part result line.new.items is_long.new self.new (C.reading connection.new) }
         ensures room { vec_capacity line.old ≤ vec_capacity line.new }
         ensures same { (C.contents connection.new ≡ C.contents connection.old) × (C.names connection.new ≡ C.names connection.old) }
     {
@@ -278,7 +278,7 @@ enum Given {
 fn read_chunk<C: Connection>(connection: &mut C, chunk: &mut [u8; CHUNK], reads: &mut u32) -> Given
     requires { reads.old ≤ most_reads }
     ensures reads { reads.new ≤ most_reads }
-    ensures bytes { ReadsChunk (C.remaining connection.old) (C.remaining connection.new) chunk.new result }
+    ensures bytes { ReadsChunk (C.reading connection.old) (C.reading connection.new) chunk.new result }
     ensures same { (C.contents connection.new ≡ C.contents connection.old) × (C.names connection.new ≡ C.names connection.old) }
 {
     for _ in 0..MAX_READS {

@@ -6,10 +6,11 @@ use Rattle.first_line.specs.declared.line.FirstLine.TheVariants as first
 use Rattle.vault_lines.specs.Texts.{outside_text}
 use Rattle.vault_model.specs.declared.replies.Outside.TheVariants.{Busy}
 
--- a served connection: its stream, and what is known of its first line
+-- a served connection: its stream, what is known of its first line, and all bytes that it gave
 pub record OnWire (S : Type 0) : Type 0 where
   pub stream : S
   pub first : FirstLine
+  pub heard : List ℕ
 
 -- what is known before anything came: nothing, or that all its bytes are its own
 abbrev pub first_of : Bool → FirstLine

@@ -1,8 +1,10 @@
 //! Accepts connections, which wait here for a place.
 
+use crate::accepted::Accepted;
 use crate::bells::Bell;
 use crate::moments::first_of;
-use crate::stream::{prepare, turn_away};
+use crate::socket::Socket;
+use crate::stream::turn_away;
 use crossbeam_channel::{Receiver, Sender};
 use mio::unix::SourceFd;
 use mio::{Events, Interest, Poll, Token};
@@ -56,15 +58,6 @@ pub struct DoorOptions {
     pub wait: Option<Duration>,
     /// How many connections there may be at once from one address, except from a loopback's. None: any number.
     pub per_address: Option<u32>,
-}
-
-/// An accepted connection, with its number.
-#[derive(Drop)]
-pub struct Accepted {
-    /// Connections are numbered from 1, and the number wraps.
-    pub number: u32,
-    /// Its socket: a read or a write that would wait says so.
-    pub stream: TcpStream,
 }
 
 /// What a serving thread says to the door.
@@ -278,13 +271,13 @@ impl<A: Allocator + Copy, H: Wait + Clock> Door<'_, A, H> {
         queue.number = queue.number.wrapping_add(1);
         let connection = Accepted {
             number: queue.number,
-            stream,
+            stream: Socket::new(stream),
         };
         if self.options.connections == Some(queue.number) {
             queue.closed = Some(Ok(()));
         }
         let from = address.ip().to_canonical();
-        if prepare(&connection.stream).is_err() {
+        if connection.stream.prepare().is_err() {
             drop(connection);
         } else if self.are_enough(queue, from) {
             let mut stream = connection.stream;

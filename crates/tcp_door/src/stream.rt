@@ -1,33 +1,21 @@
-//! How a connection is set up at the kernel, how its bytes are read, and how it is given up.
-ghost use Rattle.std.specs.Prelude.{◌≡◌, ℕ, List, Option, None, IfSome};
+//! How a connection's bytes are read and written, and how it is given up.
+ghost use Rattle.std.specs.Prelude.{◌≡◌, ℕ, List, [], Option, None, Some, IfSome};
 ghost use Rattle.std.specs.Option.{option_map};
 ghost use Rattle.std.specs.Io.{ReadsAtMost, WritesAtMost};
 ghost use Rattle.std.specs.Io.KnownBytes.{ReadConsumes, WriteAppends};
-ghost use Rattle.libc.specs.Net.{SockOption};
 ghost use Rattle.first_line.specs.Own.{own_part};
 ghost use Rattle.tcp_door.specs.Wires.{first_of, IsToldBusy};
 
+use crate::passed::Passed;
+use crate::socket::Socket;
 use first_line::FirstLine;
-use libc::net as c;
 use line_inlet::Connection;
 use std::alloc::Allocator;
-use std::io::{self, ErrorKind, Read, Write};
+use std::io::{self, ErrorKind};
 use std::marker::Model;
-use std::net::{Shutdown, TcpStream};
-use std::os::fd::AsRawFd;
 use std::time::{Duration, Instant};
 use vault_lines::outside_text;
 use vault_model::Outside;
-
-// Keep-alive, in seconds: the kernel probes a client that said nothing for a minute, six times, ten seconds apart, and then ends the
-// connection. It also ends one that takes nothing of what was sent for as long: the last number, in milliseconds.
-const FIRST_ASKED: u32 = 60;
-
-const ASKED_AGAIN: u32 = 10;
-
-const ASKED: u32 = 6;
-
-const LONGEST_UNTAKEN: u32 = 120_000;
 
 // Once no more is answered: for how many milliseconds a client's further bytes are awaited, how many reads there are at most, and how
 // many of them in a round.
@@ -45,32 +33,6 @@ const BYTES_A_ROUND: usize = 8_192;
 const WAIT: u64 = 1000;
 
 const SHORT_WAIT: u64 = 100;
-
-// Sets an option of a connection to a number. The kernel may refuse it, and nothing depends on it.
-fn set(stream: &TcpStream, level: i32, option: i32, number: u32)
-    requires { SockOption level option }
-{
-    let mut value = [0; 16];
-    value[..4].copy_from_slice(&number.to_ne_bytes());
-    let _ = unsafe { c::setsockopt(stream.as_raw_fd(), level, option, &value, 4) };
-}
-
-// Has the kernel end a connection whose client is gone without a word.
-fn keep_alive(stream: &TcpStream) {
-    set(stream, c::IPPROTO_TCP, c::TCP_KEEPIDLE, FIRST_ASKED);
-    set(stream, c::IPPROTO_TCP, c::TCP_KEEPINTVL, ASKED_AGAIN);
-    set(stream, c::IPPROTO_TCP, c::TCP_KEEPCNT, ASKED);
-    set(stream, c::IPPROTO_TCP, c::TCP_USER_TIMEOUT, LONGEST_UNTAKEN);
-    set(stream, c::SOL_SOCKET, c::SO_KEEPALIVE, 1);
-}
-
-/// Prepares an accepted connection: a read or a write that would wait says so.
-pub(crate) fn prepare(stream: &TcpStream) -> io::Result<()> {
-    // A reply goes out at once, also to a client that sent several lines.
-    let _ = stream.set_nodelay(true);
-    keep_alive(stream);
-    stream.set_nonblocking(true)
-}
 
 /// A stream in both directions. Reading doesn't change what was written, and writing doesn't change what is left to read.
 pub trait Stream {
@@ -95,21 +57,6 @@ pub trait Stream {
     /// Lets the other side know that no more is written.
     fn end(&mut self) -> io::Result<()>
         ensures same { (remaining self.new ≡ remaining self.old) × (contents self.new ≡ contents self.old) };
-}
-
-// No contract of the standard library says what a client sent, or what it gets. So nothing is claimed of a socket's bytes.
-impl Stream for TcpStream {
-    fn read(&mut self, buf: &mut [u8]) -> io::Result<usize> {
-        Read::read(self, buf)
-    }
-
-    fn write(&mut self, buf: &[u8]) -> io::Result<usize> {
-        Write::write(self, buf)
-    }
-
-    fn end(&mut self) -> io::Result<()> {
-        self.shutdown(Shutdown::Write)
-    }
 }
 
 // Throws away what has come, so that the connection isn't reset.
@@ -149,10 +96,12 @@ fn first_line(refuses_foreign: bool) -> FirstLine
 
 /// A served connection. It is read until it gives less than was asked for. Then nothing is there, and the kernel says when more is. In
 /// one round it gives bytes until there are `BYTES_A_ROUND`, and then says that it has none for now. If its first line is another
-/// protocol's, it gives its end in place of the first byte that shows this, and of all after it.
+/// protocol's, it gives its end in place of the first byte that shows this, and of all after it. Contracts see all that it gave.
 #[derive(Drop)]
-pub struct Wire<S = TcpStream> {
+pub struct Wire<S = Socket> {
     stream: S,
+    // All bytes that it gave.
+    heard: Passed,
     // Whether nothing is there.
     is_dry: bool,
     // Whether the end may follow what is there: the kernel doesn't say so again.
@@ -168,16 +117,17 @@ impl<S> Model for Wire<S> {
 
     ghost Value = { OnWire S };
 
-    ghost view = { λ w. record { stream = w.stream; first = w.first } };
+    ghost view = { λ w. record { stream = w.stream; first = w.first; heard = w.heard.bytes } };
 }
 
 impl<S: Stream> Wire<S> {
     /// Nothing was read yet. If `refuses_foreign` is set, another protocol's first line is the end. Else it is a line like any other.
     pub fn new(stream: S, refuses_foreign: bool) -> Wire<S>
-        ensures { result ≡ record { stream = stream; first = first_of refuses_foreign } }
+        ensures { result ≡ record { stream = stream; first = first_of refuses_foreign; heard = [] } }
     {
         Wire {
             stream,
+            heard: Passed::new(),
             is_dry: false,
             is_ending: false,
             left: BYTES_A_ROUND,
@@ -195,7 +145,7 @@ impl<S: Stream> Wire<S> {
 
 impl<S: Stream> Connection for Wire<S> {
     // Those of the stream, but for another protocol's first line.
-    ghost remaining = { λ w. option_map (own_part w.first) (S.remaining w.stream) };
+    ghost reading = { λ w. record { ahead = option_map (own_part w.first) (S.remaining w.stream); behind = Some w.heard } };
 
     ghost contents = { λ w. S.contents w.stream };
 
@@ -212,6 +162,7 @@ impl<S: Stream> Connection for Wire<S> {
                 self.left = self.left.saturating_sub(count);
                 let (own, first) = self.first.take_own(&buf[..count]);
                 self.first = first;
+                self.heard.note(&buf[..own]);
                 Ok(own)
             }
             Err(error) => {
@@ -254,7 +205,7 @@ pub enum Unread {
 /// MiB at most. A connection that is dropped with bytes unread is reset, and then a client that reads late loses replies that were
 /// written.
 #[derive(Drop)]
-pub struct Drain<S = TcpStream> {
+pub struct Drain<S = Socket> {
     /// The number of its connection.
     pub number: u32,
     stream: S,

@@ -308,7 +308,7 @@ fn serves<H: Net + Threads + Wait + Clock + Sync + Abort>(
     };
     let served = run_server_on(rt, memory, listener, vault, &options, gate);
     match served {
-        Ok((vault, _)) => {
+        Ok((vault, _, _)) => {
             let (first, second) = vault.into_devices();
             drop(first);
             drop(second);

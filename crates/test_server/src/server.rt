@@ -242,7 +242,7 @@ fn comes_to<H: Net + Threads + Wait + Clock + Sync + Abort>(
         None => run_server(rt, memory, listener, vault, workers, connections, gate),
     };
     match served {
-        Ok((vault, totals)) => left(rt, vault, totals, serving),
+        Ok((vault, totals, _)) => left(rt, vault, totals, serving),
         Err(error) => Outcome {
             error: Some(error),
             totals: Totals { staged: 0, told: 0 },

@@ -79,10 +79,10 @@ redeem_keeps old new claim (redeemed.Unknown back) h other = (h.1, h.0, λ a b s
 redeem_keeps old new claim (redeemed.NoMemory back) h other = (h.1, h.0, λ a b same. same)
 
 -- a vault that stays is shown as before
-pub same_desk : {D : Type 0} (old new : VaultSeen D) (closed : Bool) (shown : AtDesk D) → new ≡ old → record { vault = old; closed = closed } ≡ shown
-    → record { vault = new; closed = closed } ≡ shown
-same_desk {D} old new closed shown same is =
-    let P : VaultSeen D → AtDesk D = λ vault. record { vault = vault; closed = closed } in
+pub same_desk : {D : Type 0} (old new : VaultSeen D) (closed : Bool) (waiting : ℕ) (shown : AtDesk D) → new ≡ old
+    → record { vault = old; closed = closed; waiting = waiting } ≡ shown → record { vault = new; closed = closed; waiting = waiting } ≡ shown
+same_desk {D} old new closed waiting shown same is =
+    let P : VaultSeen D → AtDesk D = λ vault. record { vault = vault; closed = closed; waiting = waiting } in
     ap P same ∙ is
 
 -- and the lengths stay
@@ -93,7 +93,7 @@ same_lengths {D} old new same = (ap (λ (s : VaultSeen D). length_of s.view) sam
 pub counted_fits : (counted more total length : ℕ) → counted + more ≤ total → length ≡ total → length < 2 ^ 64 → Fits w64 counted
 counted_fits counted more total length least same fits = omega arith
 
-pub same_on_error : {D A E : Type 0} (result : Result A E) (old new : VaultSeen D) (closed : Bool) (shown : AtDesk D) → OnErr result (new ≡ old)
-    → record { vault = old; closed = closed } ≡ shown → OnErr result (record { vault = new; closed = closed } ≡ shown)
-same_on_error (Ok answer) old new closed shown same is = tt
-same_on_error (Err error) old new closed shown same is = same_desk old new closed shown same is
+pub same_on_error : {D A E : Type 0} (result : Result A E) (old new : VaultSeen D) (closed : Bool) (waiting : ℕ) (shown : AtDesk D) → OnErr result (new ≡ old)
+    → record { vault = old; closed = closed; waiting = waiting } ≡ shown → OnErr result (record { vault = new; closed = closed; waiting = waiting } ≡ shown)
+same_on_error (Ok answer) old new closed waiting shown same is = tt
+same_on_error (Err error) old new closed waiting shown same is = same_desk old new closed waiting shown same is

@@ -8,3 +8,5 @@ pub mod Prefixes
 pub mod Adding
 pub mod Seeing
 pub mod Standing
+pub mod Leaving
+pub mod Queues

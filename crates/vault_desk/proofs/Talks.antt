@@ -4,8 +4,10 @@ use Rattle.std.specs.Prelude.{MatchBool, Some, IsSome}
 use Rattle.std.proofs.Math.Seq.{take-add}
 use Rattle.std.proofs.lemmas.List.{take-append-drop}
 use Rattle.std.proofs.lemmas.List.Elements.{All-append, All-nil}
-use Rattle.std.specs.Io.KnownBytes.{Appends, Consumes}
-use Rattle.std.proofs.KnownBytes.{Appends-trans, Appends-nil, Consumes-nil}
+use Rattle.std.specs.Io.KnownBytes.{Appends}
+use Rattle.std.proofs.KnownBytes.{Appends-trans, Appends-nil}
+use Rattle.line_inlet.specs.Reading.{Reading, Gave}
+use Rattle.line_inlet.proofs.Readings.{gave_none}
 use Rattle.vault_lines.specs.Limits.{longest_line}
 use Rattle.vault_lines.specs.Grammar.{command_of}
 use Rattle.vault_model.specs.Said.{Command}
@@ -32,7 +34,7 @@ use Rattle.vault_desk.proofs.Heard.{hears_nothing, hears_line, hears_more, hears
 use Rattle.vault_desk.proofs.Told.{speaks_more, session_more, none_left_more, not_ended_left, counts_more, texts_more, writes_whole, quits_without}
 
 -- between two lines no part of the next one was taken
-pub hears_between : {A : Type 0} (old new : Option (List ℕ)) (inflow : Inflow) (kept : List ℕ) (is_long : Bool) (outs : List (Out A))
+pub hears_between : {A : Type 0} (old new : Reading) (inflow : Inflow) (kept : List ℕ) (is_long : Bool) (outs : List (Out A))
     → HeardSoFar old new inflow outs → IsBetween kept is_long → HeardPart old new inflow kept is_long outs
 hears_between old new inflow kept is_long outs heard between =
     let within : inflow.taken ≤ most_bytes = heard.4 in
@@ -50,9 +52,9 @@ cuts_part before old next part more piece pending taken one cut = record {
 }
 
 -- a piece more of the line was taken
-pub part_more : {A : Type 0} (start mid new : Option (List ℕ)) (before old next : Inflow) (part piece more kept : List ℕ) (is_long : Bool) (outs : List (Out A))
+pub part_more : {A : Type 0} (start mid new : Reading) (before old next : Inflow) (part piece more kept : List ℕ) (is_long : Bool) (outs : List (Out A))
     → HeardSoFar start mid before outs → before.pending ≡ part ++ old.pending → old.taken ≡ before.taken + length part → IsOneLine part
-    → Consumes mid new more → old.pending ++ more ≡ piece ++ next.pending → IsOneLine piece → KeepsLine (part ++ piece) kept is_long
+    → Gave mid new more → old.pending ++ more ≡ piece ++ next.pending → IsOneLine piece → KeepsLine (part ++ piece) kept is_long
     → next.taken ≡ old.taken + length piece → next.taken ≤ most_bytes → HeardPart start new next kept is_long outs
 part_more start mid new before old next part piece more kept is_long outs heard pending taken one consumes bytes one_more keeps grown within =
     let all : before.pending ++ more ≡ (part ++ piece) ++ next.pending =
@@ -68,8 +70,8 @@ part_more start mid new before old next part piece more kept is_long outs heard 
     )
 
 -- nothing more was taken, and what was given is pending
-pub part_waits : {A : Type 0} (start mid new : Option (List ℕ)) (old next : Inflow) (more kept : List ℕ) (is_long : Bool) (outs : List (Out A))
-    → HeardPart start mid old kept is_long outs → Consumes mid new more → next.pending ≡ old.pending ++ more → next.taken ≡ old.taken
+pub part_waits : {A : Type 0} (start mid new : Reading) (old next : Inflow) (more kept : List ℕ) (is_long : Bool) (outs : List (Out A))
+    → HeardPart start mid old kept is_long outs → Gave mid new more → next.pending ≡ old.pending ++ more → next.taken ≡ old.taken
     → HeardPart start new next kept is_long outs
 part_waits start mid new old next more kept is_long outs heard consumes pending_is taken_is =
     let (part, before, so_far, pending, taken, within, one, keeps) = heard in
@@ -77,8 +79,8 @@ part_waits start mid new old next more kept is_long outs heard consumes pending_
     (subst (λ l. KeepsLine l kept is_long) (sym (append-nil part)) keeps) (omega (arith, taken_is)) (omega (arith, taken_is, within))
 
 -- what was given last is left
-pub part_rest : {A : Type 0} (start mid new : Option (List ℕ)) (old : Inflow) (kept : List ℕ) (is_long : Bool) (outs : List (Out A)) (more : List ℕ) (ended : Ended)
-    → HeardPart start mid old kept is_long outs → Consumes mid new more
+pub part_rest : {A : Type 0} (start mid new : Reading) (old : Inflow) (kept : List ℕ) (is_long : Bool) (outs : List (Out A)) (more : List ℕ) (ended : Ended)
+    → HeardPart start mid old kept is_long outs → Gave mid new more
     → ((part given : List ℕ) → IsOneLine part → length given ≡ old.taken + length (old.pending ++ more) → EndsBy ended new given outs (part ++ (old.pending ++ more)))
     → HeardAll start new outs ended
 part_rest start mid new old kept is_long outs more ended heard consumes may_end =
@@ -88,10 +90,10 @@ part_rest start mid new old kept is_long outs more ended heard consumes may_end 
     subst (λ l. EndsBy ended new given outs l) (sym all) (may_end part given one (omega (arith, size, ap length all, length-append part (old.pending ++ more), taken))))
 
 -- a conversation that may end anywhere so ends at once
-pub part_end : {A : Type 0} (start new : Option (List ℕ)) (old : Inflow) (kept : List ℕ) (is_long : Bool) (outs : List (Out A)) (ended : Ended)
+pub part_end : {A : Type 0} (start new : Reading) (old : Inflow) (kept : List ℕ) (is_long : Bool) (outs : List (Out A)) (ended : Ended)
     → HeardPart start new old kept is_long outs → ((given left : List ℕ) → EndsBy ended new given outs left) → HeardAll start new outs ended
 part_end start new old kept is_long outs ended heard may_end =
-    part_rest start new new old kept is_long outs [] ended heard (Consumes-nil new) (λ part given one size. may_end given (part ++ (old.pending ++ [])))
+    part_rest start new new old kept is_long outs [] ended heard (gave_none new) (λ part given one size. may_end given (part ++ (old.pending ++ [])))
 
 -- an answer that fits the command that a line spells fits the line
 fits_line : {A : Type 0} (line : List ℕ) (command : Command) (out : Out A) → length line ≤ longest_line → command_of line ≡ Some command
@@ -103,8 +105,8 @@ fits_line line command (Refused outsides.NoMemory) short spells fits = short
 fits_line line command (Refused outsides.Broken) short spells fits = subst IsSome (sym spells) refl
 
 -- a whole line came, with what fits it
-pub whole_line : {A : Type 0} (start mid new : Option (List ℕ)) (before next : Inflow) (outs : List (Out A)) (more line : List ℕ) (heard : Heard A)
-    (kept : List ℕ) (is_long : Bool) → FitsLine line heard → length line ≤ longest_line → HeardSoFar start mid before outs → Consumes mid new more
+pub whole_line : {A : Type 0} (start mid new : Reading) (before next : Inflow) (outs : List (Out A)) (more line : List ℕ) (heard : Heard A)
+    (kept : List ℕ) (is_long : Bool) → FitsLine line heard → length line ≤ longest_line → HeardSoFar start mid before outs → Gave mid new more
     → CutsLine before more line next → IsBetween kept is_long → IsHeard heard start new next kept is_long outs
 whole_line start mid new before next outs more line (lines.Asked ticket) kept is_long fits short so_far consumes cut between = (
   (
@@ -185,7 +187,7 @@ told_none a b outs telling tells stays =
     subst NoneLeft (sym split) (none_left_more before last none here)
 
 -- a conversation goes on after an answer was written
-pub told_on : {A : Type 0} (telling : Telling A) (turn : Turn A) (r0 r w0 w1 w2 : Option (List ℕ)) (s0 : Totals) (inflow : Inflow) (kept : List ℕ)
+pub told_on : {A : Type 0} (telling : Telling A) (turn : Turn A) (r0 r : Reading) (w0 w1 w2 : Option (List ℕ)) (s0 : Totals) (inflow : Inflow) (kept : List ℕ)
     (is_long : Bool) (outs : List (Out A)) (session : ℕ) (share : Totals)
     → TellsOn telling turn w1 w2 → Stands (Tell telling) r0 r w0 w1 s0 inflow kept is_long outs session share
     → Stands turn r0 r w0 w2 s0 inflow kept is_long outs session share
@@ -253,7 +255,7 @@ counts_lost : {A : Type 0} (old new : Totals) (outs : List (Out A)) (lost : ℕ)
 counts_lost old new outs lost h = record { told = h.told; least = h.least; most = omega (arith, h.most) }
 
 -- an answer is to be written after the others
-pub answers : {A : Type 0} (out : Out A) (turn : Turn A) (r0 r w0 w : Option (List ℕ)) (s0 : Totals) (inflow : Inflow) (kept : List ℕ) (is_long : Bool)
+pub answers : {A : Type 0} (out : Out A) (turn : Turn A) (r0 r : Reading) (w0 w : Option (List ℕ)) (s0 : Totals) (inflow : Inflow) (kept : List ℕ) (is_long : Bool)
     (outs : List (Out A)) (session : ℕ) (share : Totals)
     → IsAnswered out turn → HeardSoFar r0 r inflow (outs ++ out ∷ []) → IsBetween kept is_long → length outs < most_lines → SpeaksFor 0 outs
     → IsOf (session_of 0 outs) out → session ≡ session_after (session_of 0 outs) out → Appends w0 w (texts_of outs) → NoneLeft outs
@@ -286,7 +288,7 @@ answers out (Keep kept_wait) r0 r w0 w s0 inflow kept is_long outs session share
 answers out (Wait ticket) r0 r w0 w s0 inflow kept is_long outs session share answered heard between few spoken of_session session_is written none counted = absurd answered
 
 -- a conversation that would hear a line ends, and all its answers are written
-pub ends_so : {A : Type 0} (ended : Ended) (r0 r new w0 w : Option (List ℕ)) (s0 : Totals) (inflow next : Inflow) (kept behind : List ℕ)
+pub ends_so : {A : Type 0} (ended : Ended) (r0 r new : Reading) (w0 w : Option (List ℕ)) (s0 : Totals) (inflow next : Inflow) (kept behind : List ℕ)
     (is_long was_long : Bool) (outs : List (Out A)) (session : ℕ) (share : Totals)
     → HeardAll r0 new outs ended → (ended ≢ ends.Quit) × (ended ≢ ends.Write)
     → Stands Hear r0 r w0 w s0 inflow kept is_long outs session share → Stands (Over ended) r0 new w0 w s0 next behind was_long outs session share
@@ -309,7 +311,7 @@ pub wants : (ends.NoMemory ≢ ends.Quit) × (ends.NoMemory ≢ ends.Write)
 wants = (λ e. subst IsWanting e tt, λ e. subst IsWanting e tt)
 
 -- the reply that was waited for is to be written
-pub replies : {A : Type 0} (ticket : TicketSeen) (out : Out A) (turn : Turn A) (r0 r w0 w : Option (List ℕ)) (s0 : Totals) (inflow : Inflow) (kept : List ℕ)
+pub replies : {A : Type 0} (ticket : TicketSeen) (out : Out A) (turn : Turn A) (r0 r : Reading) (w0 w : Option (List ℕ)) (s0 : Totals) (inflow : Inflow) (kept : List ℕ)
     (is_long : Bool) (outs : List (Out A)) (session after : ℕ) (share counted : Totals)
     → Stands (Wait ticket) r0 r w0 w s0 inflow kept is_long outs session share → FitsCommand ticket.command out
     → (ticket.session ≡ session_of 0 outs → IsOf (session_of 0 outs) out) → after ≡ session_after session out
@@ -344,7 +346,7 @@ pub counts_unknown : (A : Type 0) (outside : Outside) (before share new : Totals
 counts_unknown A outside before share new is staged same = subst (λ o. CountsOne {A = A} before (Refused o) new) (sym is) (counts_broken A before share new staged same)
 
 -- the reply that was waited for is lost
-pub loses : {A : Type 0} (ticket : TicketSeen) (r0 r w0 w : Option (List ℕ)) (s0 : Totals) (inflow : Inflow) (kept : List ℕ) (is_long : Bool)
+pub loses : {A : Type 0} (ticket : TicketSeen) (r0 r : Reading) (w0 w : Option (List ℕ)) (s0 : Totals) (inflow : Inflow) (kept : List ℕ) (is_long : Bool)
     (outs : List (Out A)) (session : ℕ) (share : Totals)
     → Stands (Wait ticket) r0 r w0 w s0 inflow kept is_long outs session share → Stands (Over ends.NoMemory) r0 r w0 w s0 inflow kept is_long outs session share
 loses ticket r0 r w0 w s0 inflow kept is_long outs session share h =
@@ -360,7 +362,7 @@ loses ticket r0 r w0 w s0 inflow kept is_long outs session share h =
     }
 
 -- a conversation begins
-pub starts : (A : Type 0) (r w : Option (List ℕ)) (share : Totals) → Stands {A = A} Hear r r w w share (record { pending = []; taken = 0 }) [] false [] 0 share
+pub starts : (A : Type 0) (r : Reading) (w : Option (List ℕ)) (share : Totals) → Stands {A = A} Hear r r w w share (record { pending = []; taken = 0 }) [] false [] 0 share
 starts A r w share = record {
   heard = hears_between r r (record { pending = []; taken = 0 }) [] false [] (hears_nothing r [] refl) (refl, refl);
   few = omega arith;
@@ -372,7 +374,7 @@ starts A r w share = record {
 }
 
 -- a kept `wait` is kept on
-pub keeps_on : {A : Type 0} (wait next : PendingWait) (r0 r w0 w : Option (List ℕ)) (s0 : Totals) (inflow : Inflow) (kept : List ℕ) (is_long : Bool)
+pub keeps_on : {A : Type 0} (wait next : PendingWait) (r0 r : Reading) (w0 w : Option (List ℕ)) (s0 : Totals) (inflow : Inflow) (kept : List ℕ) (is_long : Bool)
     (outs : List (Out A)) (session : ℕ) (share : Totals) → next.claim ≡ wait.claim
     → Stands {A = A} (Keep wait) r0 r w0 w s0 inflow kept is_long outs session share → Stands {A = A} (Keep next) r0 r w0 w s0 inflow kept is_long outs session share
 keeps_on {A} wait next r0 r w0 w s0 inflow kept is_long outs session share same h = record {
@@ -386,7 +388,7 @@ keeps_on {A} wait next r0 r w0 w s0 inflow kept is_long outs session share same 
 }
 
 -- it is staged
-pub stages_kept : {A : Type 0} (wait : PendingWait) (ticket : TicketSeen) (r0 r w0 w : Option (List ℕ)) (s0 : Totals) (inflow : Inflow) (kept : List ℕ)
+pub stages_kept : {A : Type 0} (wait : PendingWait) (ticket : TicketSeen) (r0 r : Reading) (w0 w : Option (List ℕ)) (s0 : Totals) (inflow : Inflow) (kept : List ℕ)
     (is_long : Bool) (outs : List (Out A)) (session : ℕ) (share staged : Totals)
     → ticket.session ≡ session → ticket.command ≡ Await wait.claim → staged ≡ record share { staged = share.staged + 1 }
     → Stands {A = A} (Keep wait) r0 r w0 w s0 inflow kept is_long outs session share → Stands {A = A} (Wait ticket) r0 r w0 w s0 inflow kept is_long outs session staged
@@ -401,7 +403,7 @@ stages_kept {A} wait ticket r0 r w0 w s0 inflow kept is_long outs session share 
 }
 
 -- its answer is to be written, where it isn't staged
-pub refuses_kept : {A : Type 0} (wait : PendingWait) (outside : Outside) (turn : Turn A) (r0 r w0 w : Option (List ℕ)) (s0 : Totals) (inflow : Inflow)
+pub refuses_kept : {A : Type 0} (wait : PendingWait) (outside : Outside) (turn : Turn A) (r0 r : Reading) (w0 w : Option (List ℕ)) (s0 : Totals) (inflow : Inflow)
     (kept : List ℕ) (is_long : Bool) (outs : List (Out A)) (session after : ℕ) (share : Totals) → outside ≢ outsides.BadLine
     → after ≡ session_after {A = A} session (Refused outside) → IsAnswered (Refused outside) turn
     → Stands {A = A} (Keep wait) r0 r w0 w s0 inflow kept is_long outs session share
@@ -412,7 +414,7 @@ refuses_kept {A} wait outside turn r0 r w0 w s0 inflow kept is_long outs session
     (counts_more s0 share share outs (Refused outside) h.counted (counts_refused A outside share))
 
 -- it is lost where memory is refused
-pub wants_kept : {A : Type 0} (wait : PendingWait) (r0 r w0 w : Option (List ℕ)) (s0 : Totals) (inflow : Inflow) (kept : List ℕ) (is_long : Bool)
+pub wants_kept : {A : Type 0} (wait : PendingWait) (r0 r : Reading) (w0 w : Option (List ℕ)) (s0 : Totals) (inflow : Inflow) (kept : List ℕ) (is_long : Bool)
     (outs : List (Out A)) (session : ℕ) (share : Totals)
     → Stands {A = A} (Keep wait) r0 r w0 w s0 inflow kept is_long outs session share → Stands {A = A} (Over ends.NoMemory) r0 r w0 w s0 inflow kept is_long outs session share
 wants_kept wait r0 r w0 w s0 inflow kept is_long outs session share h = record {
@@ -426,7 +428,7 @@ wants_kept wait r0 r w0 w s0 inflow kept is_long outs session share h = record {
 }
 
 -- and where the conversation ends while it is kept
-pub drops_kept : {A : Type 0} (wait : PendingWait) (r0 r w0 w : Option (List ℕ)) (s0 : Totals) (inflow : Inflow) (kept : List ℕ) (is_long : Bool)
+pub drops_kept : {A : Type 0} (wait : PendingWait) (r0 r : Reading) (w0 w : Option (List ℕ)) (s0 : Totals) (inflow : Inflow) (kept : List ℕ) (is_long : Bool)
     (outs : List (Out A)) (session : ℕ) (share : Totals)
     → Stands {A = A} (Keep wait) r0 r w0 w s0 inflow kept is_long outs session share → Stands {A = A} (Over ends.Read) r0 r w0 w s0 inflow kept is_long outs session share
 drops_kept wait r0 r w0 w s0 inflow kept is_long outs session share h = record {

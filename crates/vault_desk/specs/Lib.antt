@@ -8,5 +8,6 @@ pub mod Talking
 pub mod Answered
 pub mod Logs
 pub mod Waiting
+pub mod Flushes
 pub mod Lost
 pub mod Looking

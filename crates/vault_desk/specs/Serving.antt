@@ -1,7 +1,7 @@
 -- What answers the lines of a connection get, what is written for them, and what a worker counts. This project's own.
 use Rattle.std.specs.Prelude.{◌≡◌, ◌≢◌, ℕ, ◌+◌, ◌<◌, ◌≤◌, ◌==◌, if◌then◌else◌, List, [], ◌∷◌, ◌++◌, length, take, Option, Some, None, IsSome, ◌⊎◌, sum_by}
 use Rattle.std.specs.List.{flat_map, AllZip}
-use Rattle.std.specs.Io.KnownBytes.{Consumes, Appends, IsAtEnd}
+use Rattle.std.specs.Io.KnownBytes.{Appends, IsAtEnd}
 use Rattle.vault_model.specs.Said.{Command, Reply}
 use Rattle.vault_model.specs.declared.replies.Reply.TheVariants as replies
 use Rattle.vault_model.specs.declared.replies.Outside.TheVariants as outsides
@@ -9,6 +9,7 @@ use Rattle.vault_lines.specs.Limits.{longest_line}
 use Rattle.vault_lines.specs.Grammar.{command_of}
 use Rattle.vault_lines.specs.Texts.{reply_text, outside_text}
 use Rattle.line_inlet.specs.Inflow.{Inflow}
+use Rattle.line_inlet.specs.Reading.{Reading, Gave}
 use Rattle.line_inlet.specs.Incoming.{most_bytes, IsOneLine}
 use Rattle.group_commit.specs.View.{View}
 use Rattle.vault_desk.specs.Sights.{WasTold, Acknowledged}
@@ -41,22 +42,22 @@ abbrev pub with_feed : List ℕ → List ℕ
 with_feed line = line ++ 10 ∷ []
 
 -- what the reader gave is the lines that were answered, each answer at its line's place, and then what is left
-pub record Hears {A : Type 0} (old new : Option (List ℕ)) (given : List ℕ) (lines : List (List ℕ)) (outs : List (Out A))
+pub record Hears {A : Type 0} (old new : Reading) (given : List ℕ) (lines : List (List ℕ)) (outs : List (Out A))
     (left : List ℕ) : Type 0 where
-  pub given_is : Consumes old new given
+  pub given_is : Gave old new given
   pub lines_are : given ≡ flat_map with_feed lines ++ left
   pub answered : AllZip IsAnswer lines outs
 
 -- the lines so far were answered, and what is left is pending
-abbrev pub HeardSoFar : {A : Type 0} → Option (List ℕ) → Option (List ℕ) → Inflow → List (Out A) → Type 0
+abbrev pub HeardSoFar : {A : Type 0} → Reading → Reading → Inflow → List (Out A) → Type 0
 HeardSoFar old new inflow outs =
     (given : List ℕ) × (lines : List (List ℕ)) × Hears old new given lines outs inflow.pending
     × (inflow.taken ≡ length (flat_map with_feed lines)) × (inflow.taken ≤ most_bytes)
 
 -- When a conversation may end so: the reader ended, and no whole line is left; or the most lines were answered, or the reader gave more
 -- than the most bytes.
-abbrev pub EndsBy : {A : Type 0} → Ended → Option (List ℕ) → List ℕ → List (Out A) → List ℕ → Type 0
-EndsBy ends.EndOfInput new given outs left = IsAtEnd new × IsOneLine left
+abbrev pub EndsBy : {A : Type 0} → Ended → Reading → List ℕ → List (Out A) → List ℕ → Type 0
+EndsBy ends.EndOfInput new given outs left = IsAtEnd new.ahead × IsOneLine left
 EndsBy ends.Limit new given outs left = (length outs ≡ most_lines) ⊎ (most_bytes < length given)
 EndsBy ends.Quit new given outs left = Unit {0}
 EndsBy ends.Read new given outs left = Unit {0}
@@ -64,7 +65,7 @@ EndsBy ends.Write new given outs left = Unit {0}
 EndsBy ends.NoMemory new given outs left = Unit {0}
 
 -- the lines were answered up to this end, and they have at most the most bytes
-abbrev pub HeardAll : {A : Type 0} → Option (List ℕ) → Option (List ℕ) → List (Out A) → Ended → Type 0
+abbrev pub HeardAll : {A : Type 0} → Reading → Reading → List (Out A) → Ended → Type 0
 HeardAll old new outs ended =
     (given : List ℕ) × (lines : List (List ℕ)) × (left : List ℕ) × Hears old new given lines outs left
     × (length (flat_map with_feed lines) ≤ most_bytes) × EndsBy ended new given outs left

@@ -1,5 +1,6 @@
 -- What was seen of a served vault, and what that shows. This project's own.
-use Rattle.std.specs.Prelude.{◌≡◌, ◌==◌, ◌+◌, ℕ, true, List, [], ◌∷◌, ◌++◌, length, MatchBool, Option, Some, None, slice_get}
+use Rattle.std.specs.Prelude.{◌≡◌, ◌==◌, ◌+◌, ◌⊎◌, ℕ, true, List, [], ◌∷◌, ◌++◌, length, MatchBool, Option, Some, None, slice_get}
+use Rattle.vault_model.specs.declared.commands.Command.TheVariants.{Leave}
 use Rattle.logbook.specs.Pages.{Cell, Step, View as Known, Book, Named}
 use Rattle.group_commit.specs.Entries.{Entry}
 use Rattle.vault_state.specs.Vault.{Vault, IsVault, CountsBelow}
@@ -34,6 +35,11 @@ abbrev pub WentThrough : View → View → List View → Type 0
 WentThrough old new [] = Unit {0}
 WentThrough old new (v ∷ vs) = GoesOn old v × GoesOn v new × WentThrough old new vs
 
+-- this view is among those that were seen
+pub record Saw (seen : List View) (v : View) : Type 0 where
+  pub place : ℕ
+  pub is_seen : slice_get seen place ≡ Some v
+
 -- the entry that a ticket names stands in this view, at its position
 pub record IsStaged (v : View) (claim : TicketSeen) : Type 0 where
   pub entry : Entry
@@ -53,6 +59,38 @@ pub record WasTold (seen : List View) (told : Told) : Type 0 where
   pub view : View
   pub is_seen : slice_get seen place ≡ Some view
   pub has : HasTold view told
+
+-- the entry of a leave of this session stood in a view that was seen
+pub record WasLeft (seen : List View) (session : ℕ) : Type 0 where
+  pub claim : TicketSeen
+  pub is_leave : claim.command ≡ Leave
+  pub of_session : claim.session ≡ session
+  pub staged : WasStaged seen claim
+
+-- a view that was seen is of a broken vault
+pub record WasBroken (seen : List View) : Type 0 where
+  pub place : ℕ
+  pub view : View
+  pub is_seen : slice_get seen place ≡ Some view
+  pub broken : view.broken ≡ true
+
+-- no session is open (its number is 0), or its last leave was seen in the history, or the vault broke before
+abbrev pub HasItsLeave : List View → ℕ → Type 0
+HasItsLeave seen session = (session ≡ 0) ⊎ WasLeft seen session ⊎ WasBroken seen
+
+-- A vault came from one view to another by acts alone, and on the way the entry of a leave of this session got its place in the history.
+pub record Leaves (old new : View) (session : ℕ) : Type 0 where
+  pub claim : TicketSeen
+  pub is_leave : claim.command ≡ Leave
+  pub of_session : claim.session ≡ session
+  pub between : View
+  pub before : GoesOn old between
+  pub staged : IsStaged between claim
+  pub after : GoesOn between new
+
+-- no session was left open, or it has a leave in that history, or the vault is broken
+abbrev pub LeavesNoneOpen : View → View → ℕ → Type 0
+LeavesNoneOpen old new session = (session ≡ 0) ⊎ Leaves old new session ⊎ (new.broken ≡ true)
 
 -- A vault came from one view to another by acts alone, and on the way it acknowledged the entry of this receipt: its session, number,
 -- command and reply stand in the history that led to the other one, at its position.

@@ -10,6 +10,7 @@ use Rattle.vault_model.specs.declared.commands.Command.TheVariants as commands
 use Rattle.group_commit.specs.View.{View}
 use Rattle.group_commit.specs.Ticket.{TicketSeen}
 use Rattle.line_inlet.specs.Inflow.{Inflow}
+use Rattle.line_inlet.specs.Reading.{Reading}
 use Rattle.line_inlet.specs.Incoming.{most_bytes, IsOneLine, KeepsLine}
 use Rattle.vault_desk.specs.Sights.{seen_by, WasStaged}
 use Rattle.vault_desk.specs.Serving.{AreSeen, most_lines, Fits, FitsCommand, HeardSoFar, HeardAll, SpeaksFor, session_of, text_of, texts_of, IsLeft, NoneLeft, WritesAll, QuitsBy, CountsWith, lost_by}
@@ -27,7 +28,7 @@ use Rattle.vault_desk.specs.declared.clerk.Heard.{Heard}
 use Rattle.vault_desk.specs.declared.clerk.Heard.TheVariants as heard
 
 -- The lines so far were answered, and after them a part of the next one was taken: it is kept, unless it is too long.
-abbrev pub HeardPart : {A : Type 0} → Option (List ℕ) → Option (List ℕ) → Inflow → List ℕ → Bool → List (Out A) → Type 0
+abbrev pub HeardPart : {A : Type 0} → Reading → Reading → Inflow → List ℕ → Bool → List (Out A) → Type 0
 HeardPart old new inflow kept is_long outs =
     (part : List ℕ) × (before : Inflow) × HeardSoFar old new before outs × (before.pending ≡ part ++ inflow.pending)
     × (inflow.taken ≡ before.taken + length part) × (inflow.taken ≤ most_bytes) × IsOneLine part × KeepsLine part kept is_long
@@ -37,16 +38,16 @@ abbrev pub IsBetween : List ℕ → Bool → Type 0
 IsBetween kept is_long = (kept ≡ []) × (is_long ≡ false)
 
 -- one more line was heard: its answer fits this command, or it has none if memory is refused and the conversation ends
-abbrev pub HeardCommand : {A : Type 0} → Command → Option (List ℕ) → Option (List ℕ) → Inflow → List (Out A) → Type 0
+abbrev pub HeardCommand : {A : Type 0} → Command → Reading → Reading → Inflow → List (Out A) → Type 0
 HeardCommand {A} command old new inflow outs =
     ((out : Out A) → FitsCommand command out → HeardSoFar old new inflow (outs ++ out ∷ [])) × HeardAll old new outs ends.NoMemory
 
 -- the command is the ticket's
-abbrev pub HeardAsked : {A : Type 0} → TicketSeen → Option (List ℕ) → Option (List ℕ) → Inflow → List (Out A) → Type 0
+abbrev pub HeardAsked : {A : Type 0} → TicketSeen → Reading → Reading → Inflow → List (Out A) → Type 0
 HeardAsked ticket old new inflow outs = HeardCommand ticket.command old new inflow outs
 
 -- what was heard, where these are the answers so far: the one that is written next is among them, the one that is waited for isn't
-abbrev pub HearsBy : {A : Type 0} → Turn A → Option (List ℕ) → Option (List ℕ) → Inflow → List ℕ → Bool → List (Out A) → Type 0
+abbrev pub HearsBy : {A : Type 0} → Turn A → Reading → Reading → Inflow → List ℕ → Bool → List (Out A) → Type 0
 HearsBy Hear old new inflow kept is_long outs = HeardPart old new inflow kept is_long outs
 HearsBy (Keep kept_wait) old new inflow kept is_long outs = HeardCommand (commands.Await kept_wait.claim) old new inflow outs × IsBetween kept is_long
 HearsBy (Wait ticket) old new inflow kept is_long outs = HeardAsked ticket old new inflow outs × IsBetween kept is_long
@@ -88,7 +89,7 @@ waits_for turn = 0
 
 -- What a conversation has come to since its reader, its writer and its share were these: what it heard, whom it speaks for, what it wrote
 -- and what it counted.
-pub record Stands {A : Type 0} (turn : Turn A) (reader_old reader_new writer_old writer_new : Option (List ℕ)) (counts : Totals)
+pub record Stands {A : Type 0} (turn : Turn A) (reader_old reader_new : Reading) (writer_old writer_new : Option (List ℕ)) (counts : Totals)
     (inflow : Inflow) (kept : List ℕ) (is_long : Bool) (outs : List (Out A)) (session : ℕ) (share : Totals) : Type 0 where
   pub heard : HearsBy turn reader_old reader_new inflow kept is_long outs
   pub few : length outs + waits_for turn ≤ most_lines
@@ -109,7 +110,7 @@ pub record Knows {A : Type 0} (turn : Turn A) (seen : List View) (outs : List (O
   pub asked : IsSeenIn seen turn
 
 -- the same for a conversation
-abbrev pub StandsAt : {S T A : Type 0} {s : TallyGhosts S} {t : TallyGhosts T} → Turn A → (reader_old reader_new writer_old writer_new : Option (List ℕ))
+abbrev pub StandsAt : {S T A : Type 0} {s : TallyGhosts S} {t : TallyGhosts T} → Turn A → (reader_old reader_new : Reading) (writer_old writer_new : Option (List ℕ))
     → Totals → Conversation S T A s t → Type 0
 StandsAt turn reader_old reader_new writer_old writer_new counts talk =
     Stands turn reader_old reader_new writer_old writer_new counts talk.inlet talk.line.items talk.is_long talk.answers.outs talk.session talk.share
@@ -125,7 +126,7 @@ IsReaders ends.Write = ⊥
 IsReaders ends.NoMemory = ⊥
 
 -- how a line came: with the answer or the command that fits it, not yet whole, or not at all
-abbrev pub IsHeard : {A : Type 0} → Heard A → Option (List ℕ) → Option (List ℕ) → Inflow → List ℕ → Bool → List (Out A) → Type 0
+abbrev pub IsHeard : {A : Type 0} → Heard A → Reading → Reading → Inflow → List ℕ → Bool → List (Out A) → Type 0
 IsHeard (heard.Asked ticket) old new inflow kept is_long outs = HeardAsked ticket old new inflow outs × IsBetween kept is_long
 IsHeard (heard.Refused outside) old new inflow kept is_long outs = HeardSoFar old new inflow (outs ++ Refused outside ∷ []) × IsBetween kept is_long
 IsHeard (heard.Kept kept_wait) old new inflow kept is_long outs = HeardCommand (commands.Await kept_wait.claim) old new inflow outs × IsBetween kept is_long

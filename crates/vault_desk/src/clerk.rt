@@ -1,15 +1,17 @@
 //! What a conversation asks for at the desk: to hear a line, to stage its command, to look for the reply.
-ghost use Rattle.std.specs.Prelude.{◌≡◌, ◌≢◌, ◌+◌, ◌≤◌, ◌<◌, ℕ, List, Option, false, [], ◌∷◌, ◌++◌, IfOk, IfErr, OnOk, OnErr, IfSome, length, true};
+ghost use Rattle.std.specs.Prelude.{◌≡◌, ◌≢◌, ◌+◌, ◌≤◌, ◌<◌, ◌⊎◌, ℕ, List, Option, false, [], ◌∷◌, ◌++◌, IfOk, IfErr, OnOk, OnErr, IfSome, length, true};
 ghost use Rattle.vault_lines.specs.Limits.{longest_line};
+ghost use Rattle.line_inlet.specs.Reading.{Reading};
 ghost use Rattle.vault_desk.specs.Serving.{Counts, session_of, session_after as session_after_out};
 ghost use mathlib.Core.List.{IsPrefix};
 ghost use Rattle.vault_desk.specs.Looking.{IsFor, CountsLooked, ShowsLooked};
-ghost use Rattle.vault_desk.specs.Sights.{seen_by, WasStaged};
+ghost use Rattle.vault_desk.specs.Sights.{seen_by, WasStaged, WasBroken};
+ghost use Rattle.vault_desk.specs.Waiting.{HasQueued, WaitsNoMore};
 ghost use Rattle.vault_desk.specs.Talking.{HeardPart, IsHeard, StagesBy, ShowsHeard, FitsLine, IsAnswered, StandsAt};
 ghost use Rattle.vault_desk.specs.declared.report.Out.{Out};
 ghost use Rattle.vault_desk.specs.declared.tally.Totals.{Totals};
 ghost use Rattle.vault_desk.specs.declared.turn.Turn.TheVariants as turns;
-ghost use Rattle.vault_model.specs.declared.replies.Outside.TheVariants.{BadLine};
+ghost use Rattle.vault_model.specs.declared.replies.Outside.TheVariants.{BadLine, Broken};
 ghost use Rattle.vault_model.specs.declared.commands.Command.TheVariants.{Await};
 
 use crate::cause::{Cause, NotStaged};
@@ -77,9 +79,9 @@ impl<D: Device, S: Tally, T: Tally, A: Allocator + Copy, G: Gate, H: Wait> Clerk
         talk: &mut Conversation<S, T, A>,
         connection: &mut C,
     ) -> Turn<A>
-        ensures stands { (reader_old writer_old writer_new : Option (List ℕ)) (counts : Totals)
-            → StandsAt turns.Hear reader_old (C.remaining connection.old) writer_old writer_new counts talk.old
-            → StandsAt result reader_old (C.remaining connection.new) writer_old writer_new counts talk.new }
+        ensures stands { (reader_old : Reading) (writer_old writer_new : Option (List ℕ)) (counts : Totals)
+            → StandsAt turns.Hear reader_old (C.reading connection.old) writer_old writer_new counts talk.old
+            → StandsAt result reader_old (C.reading connection.new) writer_old writer_new counts talk.new }
         ensures same { (C.contents connection.new ≡ C.contents connection.old) × (C.names connection.new ≡ C.names connection.old) }
         ensures kept { talk.new.answers.is_kept ≡ talk.old.answers.is_kept }
     {
@@ -135,9 +137,9 @@ impl<D: Device, S: Tally, T: Tally, A: Allocator + Copy, G: Gate, H: Wait> Clerk
 
     // Reads a line, and stages its command.
     fn next<C: Connection>(&self, talk: &mut Conversation<S, T, A>, connection: &mut C) -> Heard<A>
-        ensures heard { (start : Option (List ℕ)) (outs : List (Out A))
-            → HeardPart start (C.remaining connection.old) talk.old.inlet talk.old.line.items talk.old.is_long outs
-            → IsHeard result start (C.remaining connection.new) talk.new.inlet talk.new.line.items talk.new.is_long outs }
+        ensures heard { (start : Reading) (outs : List (Out A))
+            → HeardPart start (C.reading connection.old) talk.old.inlet talk.old.line.items talk.old.is_long outs
+            → IsHeard result start (C.reading connection.new) talk.new.inlet talk.new.line.items talk.new.is_long outs }
         ensures connection { (C.contents connection.new ≡ C.contents connection.old) × (C.names connection.new ≡ C.names connection.old) }
         ensures same { (talk.new.answers ≡ talk.old.answers) × (talk.new.session ≡ talk.old.session) }
         ensures staged { StagesBy result talk.old.session talk.old.share talk.new.share }
@@ -208,7 +210,7 @@ impl<D: Device, S: Tally, T: Tally, A: Allocator + Copy, G: Gate, H: Wait> Clerk
 
     // Keeps a `wait` for a claim that isn't granted yet, unless `most_waits` are kept already.
     fn keep(&self, session: u32, command: &CommandIn<A>) -> Option<PendingWait>
-        ensures { IfSome result (λ kept. command.now ≡ Await kept.claim) }
+        ensures kept { IfSome result (λ kept. (command.now ≡ Await kept.claim) × (session ≢ 0) × HasQueued S.beginning kept.claim) }
     {
         let Command::Await(claim) = command else {
             return None;
@@ -226,7 +228,8 @@ impl<D: Device, S: Tally, T: Tally, A: Allocator + Copy, G: Gate, H: Wait> Clerk
     // Gives the claim of a kept `wait` that is to be staged now. One that was released is.
     fn lets_go(&self, kept: PendingWait) -> Result<ClaimId, PendingWait>
         ensures claim { IfOk result (λ claim. claim ≡ kept.claim) }
-        ensures stays { IfErr result (λ back. (back.claim ≡ kept.claim) × (kept.is_let_go ≡ false)) }
+        ensures goes { OnOk result ((kept.is_let_go ≡ true) ⊎ WaitsNoMore S.beginning kept.claim) }
+        ensures stays { IfErr result (λ back. (back ≡ kept) × (kept.is_let_go ≡ false) × HasQueued S.beginning kept.claim) }
     {
         let shared = self.shared;
         shared.desk.lock(self.rt).lets_go(kept)
@@ -240,7 +243,7 @@ impl<D: Device, S: Tally, T: Tally, A: Allocator + Copy, G: Gate, H: Wait> Clerk
 
     /// Stages a kept `wait` once its claim doesn't wait any more. If it was released, it is staged at once.
     pub fn stage_kept(&self, talk: &mut Conversation<S, T, A>, kept: PendingWait) -> Turn<A>
-        ensures stands { (reader_old reader_new writer_old writer_new : Option (List ℕ)) (counts : Totals)
+        ensures stands { (reader_old reader_new : Reading) (writer_old writer_new : Option (List ℕ)) (counts : Totals)
             → StandsAt (turns.Keep kept) reader_old reader_new writer_old writer_new counts talk.old
             → StandsAt result reader_old reader_new writer_old writer_new counts talk.new }
         ensures kept { talk.new.answers.is_kept ≡ talk.old.answers.is_kept }
@@ -301,6 +304,7 @@ impl<D: Device, S: Tally, T: Tally, A: Allocator + Copy, G: Gate, H: Wait> Clerk
         ensures err { IfErr result (λ why. (why ≢ BadLine) × (share.new ≡ share.old)) }
         ensures seen { IsPrefix (seen_by sight.old) (seen_by sight.new) }
         ensures shown { IfOk result (λ ticket. WasStaged (seen_by sight.new) ticket) }
+        ensures broken { IfErr result (λ why. why ≡ Broken → WasBroken (seen_by sight.new)) }
     {
         let shared = self.shared;
         let may_change = may_change(&command);
@@ -325,7 +329,7 @@ impl<D: Device, S: Tally, T: Tally, A: Allocator + Copy, G: Gate, H: Wait> Clerk
 
     /// Answers the command that a ticket is for, once its fate is known. A reply that isn't known yet is still waited for.
     pub fn settle(&self, talk: &mut Conversation<S, T, A>, ticket: Ticket<A>) -> Turn<A>
-        ensures stands { (reader_old reader_new writer_old writer_new : Option (List ℕ)) (counts : Totals)
+        ensures stands { (reader_old reader_new : Reading) (writer_old writer_new : Option (List ℕ)) (counts : Totals)
             → StandsAt (turns.Wait ticket) reader_old reader_new writer_old writer_new counts talk.old
             → StandsAt result reader_old reader_new writer_old writer_new counts talk.new }
         ensures kept { talk.new.answers.is_kept ≡ talk.old.answers.is_kept }

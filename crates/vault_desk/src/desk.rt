@@ -1,7 +1,7 @@
 //! What lies under the lock.
-ghost use Rattle.std.specs.Prelude.{◌≡◌, ◌≢◌, ◌+◌, ◌≤◌, ◌↔◌, ◌⊎◌, ◌++◌, ◌∷◌, [], List, ℕ, IsTrue, IfOk, IfErr, IfSome, OnOk, OnErr, Ok, Some, true, false};
+ghost use Rattle.std.specs.Prelude.{◌≡◌, ◌≢◌, ◌+◌, ◌-◌, ◌≤◌, ◌↔◌, ◌⊎◌, ◌++◌, ◌∷◌, [], List, ℕ, IsTrue, IfOk, IfErr, IfSome, IfNone, OnOk, OnErr, Ok, Some, true, false};
 ghost use Rattle.group_commit.specs.History.{entry_of};
-ghost use Rattle.vault_model.specs.declared.replies.Outside.TheVariants.{BadLine};
+ghost use Rattle.vault_model.specs.declared.replies.Outside.TheVariants.{BadLine, Broken};
 ghost use Rattle.vault_store.specs.declared.starting.Started.TheVariants as Started;
 ghost use Rattle.vault_store.specs.Seen.{wants_snapshot};
 ghost use Rattle.group_commit.specs.World.{Stage, StartSnapshot};
@@ -16,7 +16,7 @@ ghost use Rattle.vault_desk.specs.Pumping.{IsPumped, IsAtRest};
 ghost use Rattle.vault_desk.specs.Waiting.{IsQueued, IsStandingQueued};
 ghost use mathlib.Core.List.{IsPrefix};
 ghost use Rattle.vault_desk.specs.Acts.{GoesOn};
-ghost use Rattle.vault_desk.specs.Sights.{WentThrough, IsStaged, WasStaged, seen_by};
+ghost use Rattle.vault_desk.specs.Sights.{WentThrough, Saw, WasStaged, WasBroken, seen_by};
 ghost use Rattle.vault_desk.specs.declared.flusher.Flushed.TheVariants as Flushed;
 ghost use Rattle.vault_desk.specs.declared.desk.Due.TheVariants as Due;
 
@@ -50,7 +50,7 @@ pub enum Due {
 }
 
 /// A vault, the books of both tallies, the share of what was counted before, and whether the desk is closed: the flusher is to end
-/// then. Contracts see the vault, and whether the desk is closed, but not when the flusher sleeps.
+/// then. Contracts see the vault, whether the desk is closed, and how many wait for a claim, but not when the flusher sleeps.
 #[derive(Drop)]
 pub struct Desk<D: Device, S: Tally, T: Tally, A: Allocator = Global> {
     /// The vault that all workers share.
@@ -71,7 +71,7 @@ pub struct Desk<D: Device, S: Tally, T: Tally, A: Allocator = Global> {
     pub(crate) pace: Pace,
     /// The last commit. Contracts don't see it.
     pub(crate) last: Commit,
-    /// Who waits for a claim, and when those who wait look again. Contracts don't see it.
+    /// How many wait for a claim, and when those who wait look again. Contracts don't see the latter.
     pub(crate) waits: Waits,
 }
 
@@ -84,7 +84,7 @@ impl<D: Device, S: Tally, T: Tally, A: Allocator> Model for Desk<D, S, T, A> {
 
     ghost Value = { AtDesk D };
 
-    ghost view = { λ d. record { vault = d.vault; closed = d.closed } };
+    ghost view = { λ d. record { vault = d.vault; closed = d.closed; waiting = d.waits.count } };
 
     // Invariants 1 to 5 of lib.rt, in this order; the third takes two clauses.
     ghost invariant = { λ d. (d.staged.total ≡ length_of d.vault.view) × (d.told.total ≡ d.vault.view.told) × (d.opening.staged ≡ length_of S.beginning)
@@ -110,7 +110,7 @@ impl<D: Device, S: Tally, T: Tally, A: Allocator + Copy> Desk<D, S, T, A> {
         ensures reason { IfErr result (λ refusal. IsReason self.old.vault refusal.0) }
         ensures least { (share.new.staged + length_of S.beginning ≤ length_of self.new.vault.view)
             × (share.new.told + T.beginning.told ≤ self.new.vault.view.told) }
-        ensures open { self.new.closed ≡ self.old.closed }
+        ensures open { (self.new.closed ≡ self.old.closed) × (self.new.waiting ≡ self.old.waiting) }
         ensures answered { IsAnswered self.old.vault self.new.vault }
     {
         share.audit_beside(&mut self.opening, &mut self.staged, &mut self.told);
@@ -133,7 +133,7 @@ impl<D: Device, S: Tally, T: Tally, A: Allocator + Copy> Desk<D, S, T, A> {
         ensures counted { CountsRedeem share.old result share.new }
         ensures least { (share.new.staged + length_of S.beginning ≤ length_of self.new.vault.view)
             × (share.new.told + T.beginning.told ≤ self.new.vault.view.told) }
-        ensures open { self.new.closed ≡ self.old.closed }
+        ensures open { (self.new.closed ≡ self.old.closed) × (self.new.waiting ≡ self.old.waiting) }
         ensures answered { IsAnswered self.old.vault self.new.vault }
     {
         share.audit_beside(&mut self.opening, &mut self.staged, &mut self.told);
@@ -151,7 +151,7 @@ impl<D: Device, S: Tally, T: Tally, A: Allocator + Copy> Desk<D, S, T, A> {
     /// Spends a ticket without its reply. No tally changes.
     pub fn forget(&mut self, ticket: Ticket<A>) -> Forgotten
         ensures closed { IsForgotten self.old.vault self.new.vault ticket result }
-        ensures open { self.new.closed ≡ self.old.closed }
+        ensures open { (self.new.closed ≡ self.old.closed) × (self.new.waiting ≡ self.old.waiting) }
         ensures answered { IsAnswered self.old.vault self.new.vault }
     {
         self.pace.forgets();
@@ -163,7 +163,7 @@ impl<D: Device, S: Tally, T: Tally, A: Allocator + Copy> Desk<D, S, T, A> {
         ensures pumped { IsPumped self.old.vault result self.new.vault }
         ensures same { (length_of self.new.vault.view ≡ length_of self.old.vault.view)
             × (self.new.vault.view.told ≡ self.old.vault.view.told) }
-        ensures open { self.new.closed ≡ self.old.closed }
+        ensures open { (self.new.closed ≡ self.old.closed) × (self.new.waiting ≡ self.old.waiting) }
         ensures answered { IsAnswered self.old.vault self.new.vault }
     {
         self.vault.pump()
@@ -179,7 +179,7 @@ impl<D: Device, S: Tally, T: Tally, A: Allocator + Copy> Desk<D, S, T, A> {
         ensures memory { OnErr result (MayStart self.old.vault) }
         ensures same { (length_of self.new.vault.view ≡ length_of self.old.vault.view)
             × (self.new.vault.view.told ≡ self.old.vault.view.told) }
-        ensures open { self.new.closed ≡ self.old.closed }
+        ensures open { (self.new.closed ≡ self.old.closed) × (self.new.waiting ≡ self.old.waiting) }
         ensures answered { IsAnswered self.old.vault self.new.vault }
     {
         self.vault.start_snapshot()
@@ -190,7 +190,7 @@ impl<D: Device, S: Tally, T: Tally, A: Allocator + Copy> Desk<D, S, T, A> {
         ensures retired { IsRetired self.old.vault self.new.vault result }
         ensures same { (length_of self.new.vault.view ≡ length_of self.old.vault.view)
             × (self.new.vault.view.told ≡ self.old.vault.view.told) }
-        ensures open { self.new.closed ≡ self.old.closed }
+        ensures open { (self.new.closed ≡ self.old.closed) × (self.new.waiting ≡ self.old.waiting) }
         ensures answered { IsAnswered self.old.vault self.new.vault }
     {
         self.vault.retire()
@@ -210,7 +210,7 @@ impl<D: Device, S: Tally, T: Tally, A: Allocator + Copy> Desk<D, S, T, A> {
         requires opening { (opening.staged ≡ length_of S.beginning) × (opening.told ≡ T.beginning.told) }
         requires acts { GoesOn S.beginning vault.view }
         requires seen { seen.1 ≡ [] }
-        ensures { result ≡ record { vault = vault; closed = false } }
+        ensures { result ≡ record { vault = vault; closed = false; waiting = 0 } }
     {
         let (past, sight) = seen;
         Desk {
@@ -231,7 +231,7 @@ impl<D: Device, S: Tally, T: Tally, A: Allocator + Copy> Desk<D, S, T, A> {
     pub(crate) fn start_on(&mut self) -> Result<Started, NoMemory>
         ensures started { result ≡ Ok Started.Yes → self.new.vault.view ≡ view_acted snapshot_length self.old.vault.view StartSnapshot }
         ensures refused { OnErr result (self.new ≡ self.old) }
-        ensures open { self.new.closed ≡ self.old.closed }
+        ensures open { (self.new.closed ≡ self.old.closed) × (self.new.waiting ≡ self.old.waiting) }
         ensures answered { IsAnswered self.old.vault self.new.vault }
     {
         let started = self.start_snapshot();
@@ -249,6 +249,16 @@ impl<D: Device, S: Tally, T: Tally, A: Allocator + Copy> Desk<D, S, T, A> {
         self.sight.again()
     }
 
+    // The same, for somebody who saw it before.
+    fn show_to<H: Wait>(&mut self, rt: &H, sight: &mut Option<Sight<S>>)
+        ensures same { self.new ≡ self.old }
+        ensures seen { IsPrefix (seen_by sight.old) (seen_by sight.new) }
+        ensures shown { Saw (seen_by sight.new) self.old.vault.view }
+    {
+        let shown = self.show(rt);
+        add_to(sight, shown);
+    }
+
     // Whether the vault went through all that somebody saw.
     fn went_through(&self, sight: &Option<Sight<S>>) -> bool
         ensures { IsTrue result → WentThrough S.beginning self.now.vault.view (seen_by sight.now) }
@@ -256,7 +266,7 @@ impl<D: Device, S: Tally, T: Tally, A: Allocator + Copy> Desk<D, S, T, A> {
         self.sight.covers(sight)
     }
 
-    // Stages a command, and shows its entry. One that is refused is dropped, and the vault gives the cause.
+    // Stages a command, and shows its entry. One that is refused is dropped, and the vault gives the cause. A broken vault is shown, too.
     pub(crate) fn stage_on<H: Wait>(
         &mut self,
         rt: &H,
@@ -270,21 +280,24 @@ impl<D: Device, S: Tally, T: Tally, A: Allocator + Copy> Desk<D, S, T, A> {
             × (share.new ≡ record share.old { staged = share.old.staged + 1 })) }
         ensures err { IfErr result (λ cause. (cause ≢ BadLine) × (share.new ≡ share.old)) }
         ensures reason { IfErr result (λ cause. IsReason self.old.vault cause) }
-        ensures open { self.new.closed ≡ self.old.closed }
+        ensures open { (self.new.closed ≡ self.old.closed) × (self.new.waiting ≡ self.old.waiting) }
         ensures answered { IsAnswered self.old.vault self.new.vault }
         ensures seen { IsPrefix (seen_by sight.old) (seen_by sight.new) }
         ensures shown { IfOk result (λ ticket. WasStaged (seen_by sight.new) ticket) }
+        ensures broken { IfErr result (λ why. why ≡ Broken → WasBroken (seen_by sight.new)) }
     {
         let moves = may_move(&command);
         match self.stage(session, command, share) {
             Ok(ticket) => {
                 self.waits.staged(moves);
-                let shown = self.show(rt);
-                add_to(sight, shown);
+                self.show_to(rt, sight);
                 Ok(ticket)
             }
             Err((outside, command)) => {
                 drop(command);
+                if outside == Outside::Broken {
+                    self.show_to(rt, sight);
+                }
                 Err(NotStaged::of_vault(&self.vault, outside))
             }
         }
@@ -303,7 +316,7 @@ impl<D: Device, S: Tally, T: Tally, A: Allocator + Copy> Desk<D, S, T, A> {
         ensures changed { ChangesLooked self.old.vault self.new.vault ticket result }
         ensures of_ticket { IsFor ticket result }
         ensures counted { CountsLooked share.old result share.new }
-        ensures open { self.new.closed ≡ self.old.closed }
+        ensures open { (self.new.closed ≡ self.old.closed) × (self.new.waiting ≡ self.old.waiting) }
         ensures answered { IsAnswered self.old.vault self.new.vault }
         ensures seen { IsPrefix (seen_by sight.old) (seen_by sight.new) }
         ensures shown { ShowsLooked (seen_by sight.old) ticket result (seen_by sight.new) }
@@ -313,8 +326,7 @@ impl<D: Device, S: Tally, T: Tally, A: Allocator + Copy> Desk<D, S, T, A> {
         }
         match self.redeem(ticket, share) {
             Redeemed::Told(receipt) => {
-                let shown = self.show(rt);
-                add_to(sight, shown);
+                self.show_to(rt, sight);
                 Looked::Told(receipt)
             }
             Redeemed::NotYet(ticket) => Looked::NotYet(ticket),
@@ -339,9 +351,12 @@ impl<D: Device, S: Tally, T: Tally, A: Allocator + Copy> Desk<D, S, T, A> {
 
     // Keeps the `wait` of a session for a claim that isn't granted yet, if the vault isn't broken, and fewer than `most` are kept.
     pub(crate) fn keep(&mut self, session: u32, claim: ClaimId, most: usize) -> Option<PendingWait>
-        ensures same { self.new ≡ self.old }
         ensures kept { IfSome result (λ kept. (kept.claim ≡ claim) × (session ≢ 0) × (self.old.vault.view.broken ≡ false)
             × IsQueued self.old.vault.view claim) }
+        ensures counted { IfSome result (λ kept. self.new ≡ record self.old { waiting = self.old.waiting + 1 }) }
+        ensures few { IfSome result (λ kept. self.new.waiting ≤ most) }
+        ensures none { IfNone result (self.new ≡ self.old) }
+        ensures came { GoesOn S.beginning self.old.vault.view }
     {
         let may_wait = session != 0 && !self.vault.is_broken();
         if may_wait && self.waits.count < most && self.is_queued(claim) {
@@ -353,7 +368,9 @@ impl<D: Device, S: Tally, T: Tally, A: Allocator + Copy> Desk<D, S, T, A> {
     // Gives the claim of a kept `wait` that is to be staged: it was released, or its claim doesn't wait any more, or the vault is
     // broken. Else the `wait` comes back.
     pub(crate) fn lets_go(&mut self, kept: PendingWait) -> Result<ClaimId, PendingWait>
-        ensures same { self.new ≡ self.old }
+        ensures counted { OnOk result (self.new ≡ record self.old { waiting = self.old.waiting - 1 }) }
+        ensures same { OnErr result (self.new ≡ self.old) }
+        ensures came { GoesOn S.beginning self.old.vault.view }
         ensures claim { IfOk result (λ claim. claim ≡ kept.claim) }
         ensures goes { OnOk result ((kept.is_let_go ≡ true) ⊎ (self.old.vault.view.broken ≡ true)
             ⊎ (IsQueued self.old.vault.view kept.claim → ⊥)) }
@@ -369,7 +386,7 @@ impl<D: Device, S: Tally, T: Tally, A: Allocator + Copy> Desk<D, S, T, A> {
 
     // A conversation that keeps a `wait` waits no longer.
     pub(crate) fn stops_waiting(&mut self, kept: PendingWait)
-        ensures { self.new ≡ self.old }
+        ensures { self.new ≡ record self.old { waiting = self.old.waiting - 1 } }
     {
         let _ = self.waits.leave(kept);
     }
@@ -424,7 +441,7 @@ impl<D: Device, S: Tally, T: Tally, A: Allocator + Copy> Desk<D, S, T, A> {
     // Discards the oldest kept entry, as `retire`, for those who asked for room: they have as much as there is.
     pub(crate) fn makes_room(&mut self) -> Retired
         ensures retired { IsRetired self.old.vault self.new.vault result }
-        ensures open { self.new.closed ≡ self.old.closed }
+        ensures open { (self.new.closed ≡ self.old.closed) × (self.new.waiting ≡ self.old.waiting) }
         ensures answered { IsAnswered self.old.vault self.new.vault }
     {
         self.pace.makes_room();
@@ -510,7 +527,7 @@ impl<D: Device, S: Tally, T: Tally, A: Allocator + Copy> Desk<D, S, T, A> {
     // Does the next step of a commit or of a snapshot, and notes in `pace` what it came to.
     pub(crate) fn pump_on(&mut self) -> Result<Pumped, Fault>
         ensures pumped { IsPumped self.old.vault result self.new.vault }
-        ensures open { self.new.closed ≡ self.old.closed }
+        ensures open { (self.new.closed ≡ self.old.closed) × (self.new.waiting ≡ self.old.waiting) }
         ensures answered { IsAnswered self.old.vault self.new.vault }
     {
         let pumped = self.pump();
@@ -535,6 +552,7 @@ impl<D: Device, S: Tally, T: Tally, A: Allocator + Copy> Desk<D, S, T, A> {
     pub(crate) fn flushed(&self) -> Option<Flushed>
         ensures broken { (result ≡ Some Flushed.Broken) ↔ (self.now.vault.view.broken ≡ true) }
         ensures closed { result ≡ Some Flushed.Closed → (self.now.closed ≡ true) × IsAtRest self.now.vault.view }
+        ensures came { GoesOn S.beginning self.now.vault.view }
     {
         if self.vault.is_broken() {
             return Some(Flushed::Broken);

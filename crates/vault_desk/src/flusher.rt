@@ -1,4 +1,6 @@
 //! The flusher commits what the workers staged.
+ghost use Rattle.std.specs.Prelude.{IfErr};
+ghost use Rattle.vault_desk.specs.Flushes.{HasFlushed};
 
 use crate::desk::Due;
 use crate::gate::{Gate, Point};
@@ -29,7 +31,9 @@ pub fn run_flusher<D: Device, S: Tally, T: Tally, A: Allocator + Copy, G: Gate, 
     rt: &H,
     shared: &Shared<D, S, T, A>,
     gate: &G,
-) -> Flushed {
+) -> Flushed
+    ensures { HasFlushed S.beginning result }
+{
     let flusher = Flusher::new(rt, shared, gate);
     let mut silence = Silence::new();
     for _ in rt.forever() {
@@ -73,7 +77,9 @@ impl<'a, D: Device, S: Tally, T: Tally, A: Allocator + Copy, G: Gate, H: Wait + 
     }
 
     // Waits until something is due. Else it says why the flusher ends.
-    fn wait(&self, silence: &mut Silence) -> Result<Due, Flushed> {
+    fn wait(&self, silence: &mut Silence) -> Result<Due, Flushed>
+        ensures { IfErr result (λ flushed. HasFlushed S.beginning flushed) }
+    {
         let shared = self.shared;
         let mut gathering = Gathering::new();
         let mut desk = shared.desk.lock(self.rt);

@@ -6,7 +6,8 @@
 //! (`tell`). A receipt is of an entry that the vault acknowledged, and what a conversation saw (`Sight`) shows that of the vault that is
 //! given back (`gather`, `laws::receipts_stand_in_the_history`). An answer that speaks of the vault's state was made from a vault in that state (`Cause`, `NotStaged`). The shares of all
 //! workers sum to what the history grew by (`gather`). A pump, the start of a snapshot and the retiring of an entry are one act of the
-//! vault each, and change no tally (`Desk`). For `run_flusher`, `Flusher`, `Clerk::{forget, stops_waiting}` and `Shared::{close, moves,
+//! vault each, and change no tally (`Desk`). No more conversations wait for a claim than may. A flusher ends because its vault is broken, or
+//! because it was closed and all is durable (`run_flusher`). For `Flusher`, `Clerk::{forget, stops_waiting}` and `Shared::{close, moves,
 //! settlings, wait}` only safety is proved.
 //! Stands on: group_commit, flusher_pace, vault_lines, line_inlet, and what they stand on. Must not know: what a command does, what a
 //! file holds, what a socket is, which step of a conversation comes next.
@@ -57,7 +58,7 @@ pub use gate::{Gate, OpenGate, Point};
 pub use last_flush::flush;
 pub use report::{Ended, Out};
 pub use shared::{Shared, gather};
-pub use sight::{NewPast, Sight};
+pub use sight::{NewPast, Sight, all_seen};
 pub use tally::{Share, Tally, Totals};
 pub use turn::{Telling, Turn, tell};
 pub use waits::PendingWait;

@@ -179,6 +179,21 @@ impl<S: Tally> Sight<S> {
     }
 }
 
+/// All that was seen by either. Of two sights of one vault, one begins the other.
+pub fn all_seen<S: Tally>(one: Option<Sight<S>>, other: Option<Sight<S>>) -> Option<Sight<S>>
+    ensures one { IsPrefix (seen_by one) (seen_by result) }
+    ensures other { IsPrefix (seen_by other) (seen_by result) }
+{
+    match other {
+        Some(more) => {
+            let mut all = one;
+            add_to(&mut all, more);
+            all
+        }
+        None => one,
+    }
+}
+
 // What was seen before, and this, too.
 pub(crate) fn add_to<S: Tally>(sight: &mut Option<Sight<S>>, more: Sight<S>)
     ensures same { IsPrefix (seen_by sight.old) (seen_by sight.new) }

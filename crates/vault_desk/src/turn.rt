@@ -45,7 +45,7 @@ pub fn tell<A: Allocator, C: Connection>(
 ) -> (Turn<A>, Option<io::Error>)
     ensures told { TellsOn telling result.0 (C.contents connection.old) (C.contents connection.new) }
     ensures stopped { StoppedBy result.0 result.1 }
-    ensures same { (C.remaining connection.new ≡ C.remaining connection.old) × (C.names connection.new ≡ C.names connection.old) }
+    ensures same { (C.reading connection.new ≡ C.reading connection.old) × (C.names connection.new ≡ C.names connection.old) }
 {
     let mut telling = telling;
     while telling.written < telling.text.len() {

@@ -1,5 +1,5 @@
 //! Who waits for a claim, by `wait`, and when those who wait look again.
-ghost use Rattle.std.specs.Prelude.{◌≡◌, ◌||◌, false};
+ghost use Rattle.std.specs.Prelude.{◌≡◌, ◌||◌, ◌+◌, ◌-◌, ◌^◌, ◌<◌, false};
 
 use vault_model::{ClaimId, Command};
 
@@ -44,7 +44,9 @@ pub(crate) struct Waits {
 
 impl Waits {
     /// Nobody waits.
-    pub fn new() -> Waits {
+    pub fn new() -> Waits
+        ensures { result.count ≡ 0 }
+    {
         Waits {
             moves: 0,
             settlings: 0,
@@ -53,27 +55,35 @@ impl Waits {
     }
 
     /// The queue of claims may have moved, or the vault broke: those who wait look again.
-    pub fn moved(&mut self) {
+    pub fn moved(&mut self)
+        ensures { self.new.count ≡ self.old.count }
+    {
         self.moves = self.moves.wrapping_add(1);
     }
 
     /// A command was staged. Where it may have moved the queue of claims, those who wait look again.
-    pub fn staged(&mut self, moves: bool) {
+    pub fn staged(&mut self, moves: bool)
+        ensures { self.new.count ≡ self.old.count }
+    {
         if moves {
             self.moved();
         }
     }
 
     /// There may be a reply now, or room.
-    pub fn settled(&mut self) {
+    pub fn settled(&mut self)
+        ensures { self.new.count ≡ self.old.count }
+    {
         self.settlings = self.settlings.wrapping_add(1);
     }
 
     /// One more waits, for this claim.
     pub fn enter(&mut self, claim: ClaimId) -> PendingWait
-        ensures { (result.claim ≡ claim) × (result.is_let_go ≡ false) }
+        requires { self.old.count < 2 ^ 64 - 1 }
+        ensures kept { (result.claim ≡ claim) × (result.is_let_go ≡ false) }
+        ensures counted { self.new.count ≡ self.old.count + 1 }
     {
-        self.count = self.count.saturating_add(1);
+        self.count += 1;
         PendingWait {
             claim,
             is_let_go: false,
@@ -83,7 +93,8 @@ impl Waits {
 
     /// This one waits no longer. The claim that it waited for.
     pub fn leave(&mut self, kept: PendingWait) -> ClaimId
-        ensures { result ≡ kept.claim }
+        ensures claim { result ≡ kept.claim }
+        ensures counted { self.new.count ≡ self.old.count - 1 }
     {
         let PendingWait {
             claim,

@@ -1,18 +1,18 @@
 //! One thread that serves several connections, and commits what they staged.
 
 use crate::commits::{CommitToken, CommitTry, Committer};
+use crate::place::Place;
 use crate::slot::{Patience, Progress, Slot};
 use crossbeam_channel::{Receiver, Sender};
 use mio::unix::SourceFd;
 use mio::{Events, Interest, Poll, Registry, Token};
 use std::alloc::Allocator;
-use std::os::fd::AsRawFd;
 use std::sync::{Mutex, Wait};
 use std::thread::yield_now;
 use std::time::{Clock, Duration, Instant};
 use tcp_door::{Accepted, Bell, Crowd, News, first_of, ring_others, turn_away};
 use vault_device::Device;
-use vault_sessions::{Flusher, Gate, Share, Tally, Worker};
+use vault_sessions::{Flusher, Gate, Tally, Worker};
 
 // How many events one look at the kernel gives at most.
 const MAX_EVENTS: usize = 65;
@@ -85,16 +85,16 @@ impl<D: Device, S: Tally, T: Tally, A: Allocator + Copy, G: Gate, H: Wait + Cloc
     G,
     H,
 > {
-    /// Serves connections, as many at a time as there are shares, until no more come. The shares come back.
-    pub fn run(&self, poll: Poll, shares: Vec<Share<S, T>, A>) -> Vec<Share<S, T>, A> {
-        let mut shares = shares;
+    /// Serves connections, as many at a time as there are places, until no more come. The places come back.
+    pub fn run(&self, poll: Poll, places: Vec<Place<S, T, A>, A>) -> Vec<Place<S, T, A>, A> {
+        let mut places = places;
         let Ok(mut events) = Events::with_capacity(self.worker.alloc, MAX_EVENTS) else {
             self.say(News::Lacks);
-            return shares;
+            return places;
         };
-        let Some(mut slots) = slots_of(self.worker.alloc, &mut shares) else {
+        let Some(mut slots) = slots_of(self.worker.alloc, &mut places) else {
             self.say(News::Lacks);
-            return shares;
+            return places;
         };
         for _ in 0..slots.len() {
             self.say(News::Place(self.number));
@@ -103,19 +103,43 @@ impl<D: Device, S: Tally, T: Tally, A: Allocator + Copy, G: Gate, H: Wait + Cloc
         let flusher = Flusher::new(self.worker.rt, self.worker.shared, self.worker.gate);
         let mut committer = Committer::new(flusher, self.token);
         self.serve(&mut committer, &mut poll, &mut events, &mut slots);
-        self.take_back(slots, &mut shares);
-        shares
+        self.take_back(&mut committer, slots, &mut places);
+        places
     }
 
-    // Takes the shares back out of all places.
-    fn take_back(&self, slots: Vec<Slot<S, T, A>, A>, shares: &mut Vec<Share<S, T>, A>) {
+    // Takes all places back out of the slots.
+    fn take_back(
+        &self,
+        committer: &mut Committer<'_, D, S, T, A, G, H>,
+        slots: Vec<Slot<S, T, A>, A>,
+        places: &mut Vec<Place<S, T, A>, A>,
+    ) {
         let mut slots = slots;
         while let Some(slot) = slots.pop() {
-            if let Some(share) = slot.into_share(&self.worker) {
-                let _ = shares.push(share);
+            if let Some(place) = self.end(committer, slot) {
+                let _ = places.push(place);
             }
         }
         slots.destroy_empty();
+    }
+
+    // The place of a slot. By now it is free. Else its connection would be given up, and have its last leave first.
+    fn end(
+        &self,
+        committer: &mut Committer<'_, D, S, T, A, G, H>,
+        slot: Slot<S, T, A>,
+    ) -> Option<Place<S, T, A>> {
+        let mut slot = slot;
+        for _ in self.worker.rt.forever() {
+            match slot.into_place() {
+                Ok(place) => return place,
+                Err(back) => slot = back,
+            }
+            slot.give_up(&self.worker);
+            let _ = slot.turn(&self.worker, self.patience, None);
+            let _ = committer.commit();
+        }
+        unreachable!()
     }
 
     // Says that a place is free, or that it can't serve.
@@ -306,7 +330,7 @@ impl<D: Device, S: Tally, T: Tally, A: Allocator + Copy, G: Gate, H: Wait + Cloc
         connection: Accepted,
         now: Option<Instant>,
     ) {
-        let fd = connection.stream.as_raw_fd();
+        let fd = connection.stream.fd();
         let both = Interest::READABLE | Interest::WRITABLE;
         if registry
             .register(&mut SourceFd(&fd), Token(number), both)
@@ -407,18 +431,18 @@ fn lines_of<S: Tally, T: Tally, A: Allocator + Copy>(slots: &Vec<Slot<S, T, A>, 
     lines
 }
 
-// A free place for each share, unless there is no memory for them.
+// A free slot for each place, unless there is no memory for them.
 fn slots_of<S: Tally, T: Tally, A: Allocator + Copy>(
     alloc: A,
-    shares: &mut Vec<Share<S, T>, A>,
+    places: &mut Vec<Place<S, T, A>, A>,
 ) -> Option<Vec<Slot<S, T, A>, A>> {
     let mut slots = Vec::new(alloc);
-    let Ok(()) = slots.reserve(shares.len()) else {
+    let Ok(()) = slots.reserve(places.len()) else {
         slots.destroy_empty();
         return None;
     };
-    while let Some(share) = shares.pop() {
-        slots.push_reserved(Slot::Free(share));
+    while let Some(place) = places.pop() {
+        slots.push_reserved(Slot::Free(place));
     }
     Some(slots)
 }

@@ -1,13 +1,17 @@
 //! A server over TCP.
-ghost use Rattle.std.specs.Prelude.{◌≡◌, ◌+◌, ◌<◌, ◌≤◌, ◌⊎◌, true, IfOk};
+ghost use Rattle.std.specs.Prelude.{◌≡◌, ◌+◌, ◌<◌, ◌≤◌, ◌⊎◌, true, All, IfOk, IfSome};
 ghost use Rattle.std.specs.Thread.{IsSend, IsSync};
 ghost use Rattle.vault_sessions.specs.Tallies.{HasGrown};
 ghost use Rattle.vault_sessions.specs.Acts.{GoesOn};
 ghost use Rattle.vault_sessions.specs.Pumping.{IsAtRest};
+ghost use Rattle.vault_sessions.specs.Reports.{AreCounted, IsServed};
 ghost use denote.Param.Send.{Frees};
 
 use crate::commits::CommitToken;
 use crate::event_loop::EventLoop;
+use crate::place::Place;
+use crate::reports::Reports;
+use crate::returned::Returned;
 use crate::slot::Patience;
 use crossbeam_channel::{Receiver, Sender, bounded};
 use group_commit::Vault;
@@ -83,8 +87,8 @@ pub struct Full {
 }
 
 /// Serves `workers` connections at a time, by one thread or, for two workers and more, by two. Each of them commits what was staged.
-/// They have ended when it returns. If a number of connections is given, it ends once these were served, and gives the vault and what
-/// was counted. Connections are numbered from 1, and the number wraps. At an error the connections that were handed to the threads are
+/// They have ended when it returns. If a number of connections is given, it ends once these were served, and gives the vault, what
+/// was counted, and what each connection came to: one for which memory was refused before its first byte was read isn't among these. Connections are numbered from 1, and the number wraps. At an error the connections that were handed to the threads are
 /// served to their end first. With a broken vault it goes on, and every command is answered `Broken`.
 pub fn run_server<
     D: Device + Drop + Send,
@@ -99,12 +103,14 @@ pub fn run_server<
     workers: usize,
     connections: Option<u32>,
     gate: &G,
-) -> Result<(Vault<D, A>, Totals), ServerError>
+) -> Result<(Vault<D, A>, Totals, Reports<A>), ServerError>
     requires workers { (0 < workers) × (workers ≤ 64) }
     requires frees { Frees A.Allocator A.dealloc_token }
     ensures grown { IfOk result (λ served. HasGrown vault.view served.0.view served.1) }
     ensures acts { IfOk result (λ served. GoesOn vault.view served.0.view) }
     ensures flushed { IfOk result (λ served. (served.0.view.broken ≡ true) ⊎ IsAtRest served.0.view) }
+    ensures counted { IfOk result (λ served. AreCounted served.2 served.1) }
+    ensures served { IfOk result (λ served. All (IsServed vault.view served.0.view) served.2) }
 {
     let options = ServerOptions {
         workers,
@@ -138,12 +144,14 @@ pub fn run_server_on<
     vault: Vault<D, A>,
     options: &ServerOptions,
     gate: &G,
-) -> Result<(Vault<D, A>, Totals), ServerError>
+) -> Result<(Vault<D, A>, Totals, Reports<A>), ServerError>
     requires workers { (0 < options.now.workers) × (options.now.workers ≤ 64) }
     requires frees { Frees A.Allocator A.dealloc_token }
     ensures grown { IfOk result (λ served. HasGrown vault.view served.0.view served.1) }
     ensures acts { IfOk result (λ served. GoesOn vault.view served.0.view) }
     ensures flushed { IfOk result (λ served. (served.0.view.broken ≡ true) ⊎ IsAtRest served.0.view) }
+    ensures counted { IfOk result (λ served. AreCounted served.2 served.1) }
+    ensures served { IfOk result (λ served. All (IsServed vault.view served.0.view) served.2) }
 {
     let parts = options.workers as u64 + 1;
     let (staged, told) = (Blank::new(parts), Blank::new(parts));
@@ -178,7 +186,7 @@ fn run<
     vault: Vault<D, A>,
     options: &ServerOptions,
     gate: &G,
-) -> Result<(Vault<D, A>, Totals), ServerError>
+) -> Result<(Vault<D, A>, Totals, Reports<A>), ServerError>
     requires workers { (0 < options.now.workers) × (options.now.workers ≤ 64) }
     requires frees { Frees A.Allocator A.dealloc_token }
     requires whole { (S.all ≡ S.parts) × (T.all ≡ T.parts) }
@@ -189,6 +197,8 @@ fn run<
     ensures grown { IfOk result (λ served. HasGrown vault.view served.0.view served.1) }
     ensures acts { IfOk result (λ served. GoesOn vault.view served.0.view) }
     ensures flushed { IfOk result (λ served. (served.0.view.broken ≡ true) ⊎ IsAtRest served.0.view) }
+    ensures counted { IfOk result (λ served. AreCounted served.2 served.1) }
+    ensures served { IfOk result (λ served. All (IsServed vault.view served.0.view) served.2) }
 {
     let workers = options.workers;
     let polls = match polls_of(rt, alloc, workers.min(options.threads).max(1)) {
@@ -198,8 +208,8 @@ fn run<
             return Err(error);
         }
     };
-    let made = Shared::<D, S, T, A>::new(alloc, past, staged, told, vault, workers);
-    let (shared, shares) = match made {
+    let made = share_out::<D, S, T, A>(alloc, past, staged, told, vault, workers);
+    let (shared, places) = match made {
         Ok(made) => made,
         Err(vault) => {
             close(vault);
@@ -207,25 +217,74 @@ fn run<
             return Err(ServerError::NoMemory);
         }
     };
-    let returned = match serve_shared(rt, alloc, &shared, shares, polls, &listener, options, gate) {
+    let returned = match serve_shared(rt, alloc, &shared, places, polls, &listener, options, gate) {
         Ok(returned) => returned,
         Err(error) => {
             close(shared.into_vault());
             return Err(error);
         }
     };
-    match gather(shared, returned) {
-        Ok((vault, totals, _)) => {
+    let Returned { shares, account } = returned;
+    match gather(shared, shares) {
+        Ok((vault, totals, sight)) => {
+            let Some(reports) = account.of_vault(&sight) else {
+                close(vault);
+                return Err(ServerError::NoMemory);
+            };
             let mut vault = vault;
             flush(rt, gate, &mut vault);
-            Ok((vault, totals))
+            Ok((vault, totals, reports))
         }
         Err((shared, shares)) => {
             close(shared.into_vault());
             drop(shares);
+            drop(account);
             Err(ServerError::NoMemory)
         }
     }
+}
+
+// Puts a vault under a lock, with a place for each worker. Where memory is refused, the vault comes back.
+fn share_out<D: Device, S: Tally, T: Tally, A: Allocator + Copy>(
+    alloc: A,
+    past: NewPast,
+    staged: Blank,
+    told: Blank,
+    vault: Vault<D, A>,
+    workers: usize,
+) -> Result<(Shared<D, S, T, A>, Vec<Place<S, T, A>, A>), Vault<D, A>>
+    requires workers { (0 < workers) × (workers ≤ 64) }
+    requires whole { (S.all ≡ S.parts) × (T.all ≡ T.parts) }
+    requires staged { (staged.name ≡ S.name) × (staged.parts ≡ S.parts) × (S.all ≡ workers + 1) × (S.beginning ≡ vault.view) }
+    requires told { (told.name ≡ T.name) × (told.parts ≡ T.parts) × (T.all ≡ workers + 1) × (T.beginning ≡ vault.view) }
+    requires past { past ≡ S.book }
+{
+    let (shared, shares) = match Shared::new(alloc, past, staged, told, vault, workers) {
+        Ok(made) => made,
+        Err(vault) => return Err(vault),
+    };
+    match places_of(alloc, shares) {
+        Some(places) => Ok((shared, places)),
+        None => Err(shared.into_vault()),
+    }
+}
+
+// A place for each share, none of which counted anything. None where memory is refused.
+fn places_of<S: Tally, T: Tally, A: Allocator + Copy>(
+    alloc: A,
+    shares: Vec<Share<S, T>, A>,
+) -> Option<Vec<Place<S, T, A>, A>>
+    requires { All (λ share. (share.staged ≡ 0) × (share.told ≡ 0)) shares.items }
+{
+    let mut shares = shares;
+    let mut places = Vec::new(alloc);
+    let Ok(()) = places.reserve(shares.len()) else {
+        return None;
+    };
+    while let Some(share) = shares.pop() {
+        places.push_reserved(Place::new(share));
+    }
+    Some(places)
 }
 
 // Closes a vault's files. Dropping the vault itself would be proved anew here.
@@ -235,7 +294,7 @@ fn close<D: Device + Drop, A: Allocator + Copy>(vault: Vault<D, A>) {
     drop(second);
 }
 
-// Serves what lies under this lock, by these polls. The shares come back.
+// Serves what lies under this lock, by these polls.
 fn serve_shared<
     D: Device + Drop + Send,
     A: Allocator + Copy + Send + Sync,
@@ -247,12 +306,12 @@ fn serve_shared<
     rt: &H,
     alloc: A,
     shared: &Shared<D, S, T, A>,
-    shares: Vec<Share<S, T>, A>,
+    places: Vec<Place<S, T, A>, A>,
     polls: Polls<A>,
     listener: &TcpListener,
     options: &ServerOptions,
     gate: &G,
-) -> Result<Vec<Share<S, T>, A>, ServerError>
+) -> Result<Returned<S, T, A>, ServerError>
     requires { Frees A.Allocator A.dealloc_token }
 {
     let Polls {
@@ -273,7 +332,7 @@ fn serve_shared<
         options: *options,
     };
     let returned = server.serve_all(Beginning {
-        shares,
+        places,
         threads,
         door,
         listener,
@@ -331,10 +390,10 @@ struct Server<'a, D: Device, A: Allocator, G: Gate, H, S: Tally, T: Tally> {
     options: ServerOptions,
 }
 
-// What a server begins with: the shares of its places, what each thread and the door wait by, and where connections come.
+// What a server begins with: its places, what each thread and the door wait by, and where connections come.
 #[derive(Drop)]
 struct Beginning<'a, S: Tally, T: Tally, A: Allocator> {
-    shares: Vec<Share<S, T>, A>,
+    places: Vec<Place<S, T, A>, A>,
     threads: Vec<Poll, A>,
     door: Poll,
     listener: &'a TcpListener,
@@ -347,7 +406,7 @@ struct Running<S: Tally, T: Tally, A: Allocator> {
     handles: Handles<S, T, A>,
 }
 
-type Handles<S, T, A> = Vec<JoinHandle<Vec<Share<S, T>, A>>, A>;
+type Handles<S, T, A> = Vec<JoinHandle<Vec<Place<S, T, A>, A>>, A>;
 
 impl<
     D: Device + Drop + Send,
@@ -358,16 +417,13 @@ impl<
     T: Tally + Send + Sync,
 > Server<'_, D, A, G, H, S, T> {
     // Serves by threads of its own, all of which have ended when it returns.
-    fn serve_all(
-        &self,
-        beginning: Beginning<'_, S, T, A>,
-    ) -> Result<Vec<Share<S, T>, A>, ServerError>
+    fn serve_all(&self, beginning: Beginning<'_, S, T, A>) -> Result<Returned<S, T, A>, ServerError>
         requires { Frees A.Allocator A.dealloc_token }
     {
         thread::scope(
             thread::scope_env(),
             self.rt,
-            |scope| -> Result<Vec<Share<S, T>, A>, ServerError>
+            |scope| -> Result<Returned<S, T, A>, ServerError>
                 requires { IsSend D.row × IsSend A.row × IsSync A.row × Frees A.Allocator A.dealloc_token × IsSync G.row × IsSync H.row
                     × IsSend S.row × IsSync S.row × IsSend T.row × IsSync T.row }
             { self.serve_within(scope, beginning) },
@@ -379,19 +435,18 @@ impl<
         &'s self,
         scope: &'s Scope<'s, E>,
         beginning: Beginning<'_, S, T, A>,
-    ) -> Result<Vec<Share<S, T>, A>, ServerError>
+    ) -> Result<Returned<S, T, A>, ServerError>
         requires { Frees A.Allocator A.dealloc_token }
     {
-        let mut returned = Vec::new(self.alloc);
-        if returned.reserve(beginning.shares.len()).is_err() {
+        let Some(returned) = Returned::with_room(self.alloc, beginning.places.len()) else {
             drop(beginning);
             return Err(ServerError::NoMemory);
-        }
+        };
         let (handles, accepted) = self.start_and_accept(scope, beginning);
         for bell in self.bells {
             bell.ring();
         }
-        join_all(self.rt, handles, &mut returned);
+        let returned = join_all(self.rt, handles, returned);
         self.shared.close(self.rt);
         let _ = run_flusher(self.rt, self.shared, self.gate);
         match accepted {
@@ -412,23 +467,23 @@ impl<
         requires { Frees A.Allocator A.dealloc_token }
     {
         let Beginning {
-            shares,
+            places,
             threads,
             door,
             listener,
         } = beginning;
-        let most_said = shares.len().saturating_add(threads.len());
+        let most_said = places.len().saturating_add(threads.len());
         let Ok((says, news)) = bounded::<News, A>(self.alloc, most_said) else {
             drop(threads);
             drop(door);
-            drop(shares);
+            drop(places);
             return (Vec::new(self.alloc), Err(ServerError::NoMemory));
         };
         let mut running = Running {
             senders: Vec::new(self.alloc),
             handles: Vec::new(self.alloc),
         };
-        let started = self.start_all(scope, threads, shares, &says, &mut running);
+        let started = self.start_all(scope, threads, places, &says, &mut running);
         drop(says);
         let Running { senders, handles } = running;
         let accepted = match started {
@@ -471,21 +526,21 @@ impl<
         Ok(())
     }
 
-    // Starts a thread for each poll, with an equal part of the shares, unless there is no memory for one.
+    // Starts a thread for each poll, with an equal part of the places, unless there is no memory for one.
     fn start_all<'s, E>(
         &'s self,
         scope: &'s Scope<'s, E>,
         polls: Vec<Poll, A>,
-        shares: Vec<Share<S, T>, A>,
+        places: Vec<Place<S, T, A>, A>,
         says: &Sender<News, A>,
         running: &mut Running<S, T, A>,
     ) -> Result<(), ServerError>
         requires { Frees A.Allocator A.dealloc_token }
     {
-        let mut shares = shares;
+        let mut places = places;
         let threads = polls.len();
         for (number, poll) in polls.into_iter().enumerate() {
-            let own = part_of(self.alloc, &mut shares, threads.saturating_sub(number))?;
+            let own = part_of(self.alloc, &mut places, threads.saturating_sub(number))?;
             self.start_one(scope, number, poll, own, says, running)?;
         }
         Ok(())
@@ -497,7 +552,7 @@ impl<
         scope: &'s Scope<'s, E>,
         number: usize,
         poll: Poll,
-        own: Vec<Share<S, T>, A>,
+        own: Vec<Place<S, T, A>, A>,
         says: &Sender<News, A>,
         running: &mut Running<S, T, A>,
     ) -> Result<(), ServerError>
@@ -523,11 +578,11 @@ impl<
         scope: &'s Scope<'s, E>,
         event_loop: EventLoop<'s, D, S, T, A, G, H>,
         poll: Poll,
-        shares: Vec<Share<S, T>, A>,
-    ) -> Option<JoinHandle<Vec<Share<S, T>, A>>>
+        places: Vec<Place<S, T, A>, A>,
+    ) -> Option<JoinHandle<Vec<Place<S, T, A>, A>>>
         requires { Frees A.Allocator A.dealloc_token }
     {
-        scope.spawn(move || event_loop.run(poll, shares)).ok()
+        scope.spawn(move || event_loop.run(poll, places)).ok()
     }
 
     // The event loop of a thread that has this number of places.
@@ -570,31 +625,33 @@ impl<
     }
 }
 
-// An equal part of the shares, if they go to this number of threads.
+// An equal part of the places, if they go to this number of threads.
 fn part_of<S: Tally, T: Tally, A: Allocator>(
     alloc: A,
-    shares: &mut Vec<Share<S, T>, A>,
+    places: &mut Vec<Place<S, T, A>, A>,
     threads: usize,
-) -> Result<Vec<Share<S, T>, A>, ServerError> {
-    let count = shares.len() / threads.max(1);
+) -> Result<Vec<Place<S, T, A>, A>, ServerError> {
+    let count = places.len() / threads.max(1);
     let mut own = Vec::new(alloc);
     for _ in 0..count {
-        if let Some(share) = shares.pop() {
-            own.push(share).or(Err(ServerError::NoMemory))?;
+        if let Some(place) = places.pop() {
+            own.push(place).or(Err(ServerError::NoMemory))?;
         }
     }
     Ok(own)
 }
 
-// Waits for the threads, and keeps their shares in the room that was taken for them.
-fn join_all<A: Allocator, H: Threads, S: Tally, T: Tally>(
+// Waits for the threads, and adds what their places came to.
+fn join_all<A: Allocator + Copy, H: Threads, S: Tally, T: Tally>(
     rt: &H,
     handles: Handles<S, T, A>,
-    returned: &mut Vec<Share<S, T>, A>,
-) {
+    returned: Returned<S, T, A>,
+) -> Returned<S, T, A> {
+    let mut returned = returned;
     for handle in handles {
-        for share in handle.join(rt) {
-            let _ = returned.push(share);
+        for place in handle.join(rt) {
+            returned = returned.and(place);
         }
     }
+    returned
 }

@@ -1,18 +1,16 @@
 //! A place for one connection at a time, among those that a thread serves.
-ghost use Rattle.std.specs.Prelude.{◌≡◌, true};
+ghost use Rattle.std.specs.Prelude.{◌≡◌};
 ghost use Rattle.vault_server.specs.declared.slot.Slot.TheVariants as slots;
 
+use crate::place::Place;
+use crate::served::Served;
 use std::alloc::Allocator;
 use std::mem;
 use std::sync::Wait;
 use std::time::{Duration, Instant};
-use tcp_door::{Accepted, Drain, Drained, Unread, Wire, first_of};
+use tcp_door::{Accepted, Drain, Drained, Unread, Wire};
 use vault_device::Device;
-use vault_sessions::{Awaits, Dialogue, Ended, Gate, Share, Step, Tally, Worker};
-
-// How many steps a connection takes in a round at most. A line that spells no command takes two, a `wait` that is kept four, and any
-// other three.
-const STEPS_A_ROUND: u32 = 4;
+use vault_sessions::{Awaits, Ended, Gate, Tally, Worker};
 
 /// For how long a client may take. None: for ever.
 #[derive(Debug, Clone, Copy, PartialEq, Eq)]
@@ -27,26 +25,11 @@ pub struct Patience {
     pub wait: Option<Duration>,
 }
 
-/// A connection that is served.
-pub(crate) struct Served<S: Tally, T: Tally, A: Allocator> {
-    // The number of its connection.
-    number: u32,
-    dialogue: Dialogue<Wire, S, T, A>,
-    // Whether the next step may come to something.
-    is_ready: bool,
-    // Whether its client sends no more than what has arrived.
-    is_ending: bool,
-    // When it began, when the last step was taken, and when a line began that isn't whole.
-    began: Option<Instant>,
-    moved: Option<Instant>,
-    line_began: Option<Instant>,
-}
-
 /// A place for one connection at a time.
 pub(crate) enum Slot<S: Tally, T: Tally, A: Allocator> {
-    Free(Share<S, T>),
+    Free(Place<S, T, A>),
     Served(Served<S, T, A>),
-    Drained(Drain, Share<S, T>),
+    Drained(Drain, Place<S, T, A>),
     /// What it holds is taken out, and is put back in a moment.
     TakenOut,
 }
@@ -67,27 +50,13 @@ fn serve<S: Tally, T: Tally, A: Allocator + Copy>(
     alloc: A,
     connection: Accepted,
     refuses_foreign: bool,
-    share: Share<S, T>,
+    place: Place<S, T, A>,
     now: Option<Instant>,
 ) -> Slot<S, T, A> {
-    let Accepted { number, stream } = connection;
-    match Dialogue::new(
-        alloc,
-        number,
-        Wire::new(stream, refuses_foreign),
-        share,
-        false,
-    ) {
-        Ok(dialogue) => Slot::Served(Served {
-            number,
-            dialogue,
-            is_ready: true,
-            is_ending: false,
-            began: now,
-            moved: now,
-            line_began: None,
-        }),
-        Err((wire, share)) => left(number, wire, share, Ended::NoMemory, now),
+    let number = connection.number;
+    match Served::begin(alloc, connection, refuses_foreign, place, now) {
+        Ok(served) => Slot::Served(served),
+        Err((wire, place)) => left(number, wire, place, Ended::NoMemory, now),
     }
 }
 
@@ -105,13 +74,13 @@ fn unread_of(ended: Ended) -> Unread {
 fn left<S: Tally, T: Tally, A: Allocator>(
     number: u32,
     wire: Wire,
-    share: Share<S, T>,
+    place: Place<S, T, A>,
     ended: Ended,
     now: Option<Instant>,
 ) -> Slot<S, T, A> {
     match Drain::begin(number, wire.into_stream(), unread_of(ended), now) {
-        Some(drain) => Slot::Drained(drain, share),
-        None => Slot::Free(share),
+        Some(drain) => Slot::Drained(drain, place),
+        None => Slot::Free(place),
     }
 }
 
@@ -124,7 +93,7 @@ impl<S: Tally, T: Tally, A: Allocator + Copy> Slot<S, T, A> {
     /// The number of the connection that has it.
     pub fn number(&self) -> Option<u32> {
         match self {
-            Slot::Served(served) => Some(served.number),
+            Slot::Served(served) => Some(served.number()),
             Slot::Drained(drain, _) => Some(drain.number),
             Slot::Free(_) | Slot::TakenOut => None,
         }
@@ -139,7 +108,7 @@ impl<S: Tally, T: Tally, A: Allocator + Copy> Slot<S, T, A> {
         now: Option<Instant>,
     ) {
         let served = match mem::replace(self, Slot::TakenOut) {
-            Slot::Free(share) => serve(worker.alloc, connection, refuses_foreign, share, now),
+            Slot::Free(place) => serve(worker.alloc, connection, refuses_foreign, place, now),
             other => {
                 drop(connection);
                 other
@@ -155,35 +124,23 @@ impl<S: Tally, T: Tally, A: Allocator + Copy> Slot<S, T, A> {
     {
         match mem::replace(self, slot) {
             Slot::TakenOut => {}
-            Slot::Free(_share) => unreachable!(),
+            Slot::Free(_place) => unreachable!(),
             Slot::Served(_served) => unreachable!(),
-            Slot::Drained(_drain, _share) => unreachable!(),
+            Slot::Drained(_drain, _place) => unreachable!(),
         }
     }
 
-    /// The kernel has news of its connection, and says whether its client sends no more. That is nothing to a connection that waits for
-    /// the server alone: it is looked at in a step that comes after.
+    /// The kernel has news of its connection, and says whether its client sends no more.
     pub fn wake(&mut self, is_ending: bool) {
-        let is_outside = self.is_outside();
         if let Slot::Served(served) = self {
-            served.is_ready = served.is_ready || is_outside;
-            served.is_ending = served.is_ending || is_ending;
-            served.dialogue.wake(is_ending);
-        }
-    }
-
-    // What the next step of its dialogue is for.
-    fn awaits(&self) -> Option<Awaits> {
-        match self {
-            Slot::Served(served) => Some(served.dialogue.awaits()),
-            Slot::Free(_) | Slot::Drained(_, _) | Slot::TakenOut => None,
+            served.wake(is_ending);
         }
     }
 
     /// Whether its client sent something that isn't heard.
     pub fn has_news(&self) -> bool {
         match self {
-            Slot::Served(served) => served.is_ready && served.dialogue.awaits() == Awaits::Line,
+            Slot::Served(served) => served.has_news(),
             Slot::Free(_) | Slot::Drained(_, _) | Slot::TakenOut => false,
         }
     }
@@ -191,10 +148,7 @@ impl<S: Tally, T: Tally, A: Allocator + Copy> Slot<S, T, A> {
     /// Whether its next step waits for what its client does, or the kernel, and not for the server alone.
     pub fn is_outside(&self) -> bool {
         match self {
-            Slot::Served(served) => !matches!(
-                served.dialogue.awaits(),
-                Awaits::Reply | Awaits::Leave | Awaits::Nothing
-            ),
+            Slot::Served(served) => served.is_outside(),
             Slot::Drained(_, _) => true,
             Slot::Free(_) | Slot::TakenOut => false,
         }
@@ -203,15 +157,14 @@ impl<S: Tally, T: Tally, A: Allocator + Copy> Slot<S, T, A> {
     /// Entries may be durable now: if it waits for a reply or for room for a last leave, its next step looks again.
     pub fn look_again(&mut self) {
         if let Slot::Served(served) = self {
-            let awaits = served.dialogue.awaits();
-            served.is_ready = served.is_ready || matches!(awaits, Awaits::Reply | Awaits::Leave);
+            served.look_again();
         }
     }
 
     /// Whether a connection may have it, now or soon: its own was ended.
     pub fn is_free_soon(&self) -> bool {
         match self {
-            Slot::Served(served) => served.dialogue.awaits() == Awaits::Leave,
+            Slot::Served(served) => served.awaits() == Awaits::Leave,
             Slot::Free(_) | Slot::Drained(_, _) => true,
             Slot::TakenOut => false,
         }
@@ -219,14 +172,16 @@ impl<S: Tally, T: Tally, A: Allocator + Copy> Slot<S, T, A> {
 
     /// Whether it waits for a claim.
     pub fn waits_for_claim(&self) -> bool {
-        self.awaits() == Some(Awaits::Claim)
+        match self {
+            Slot::Served(served) => served.awaits() == Awaits::Claim,
+            Slot::Free(_) | Slot::Drained(_, _) | Slot::TakenOut => false,
+        }
     }
 
     /// The queue of claims may have moved: if it waits for a claim, its next step looks again.
     pub fn look_for_claim(&mut self) {
         if let Slot::Served(served) = self {
-            let awaits = served.dialogue.awaits();
-            served.is_ready = served.is_ready || awaits == Awaits::Claim;
+            served.look_for_claim();
         }
     }
 
@@ -290,224 +245,31 @@ impl<S: Tally, T: Tally, A: Allocator + Copy> Slot<S, T, A> {
         }
     }
 
-    // What is left of a connection that is over.
+    // What is left of a connection that is over. Until it is over it is served on.
     fn over(self, now: Option<Instant>) -> Slot<S, T, A> {
         match self {
-            Slot::Free(share) => Slot::Free(share),
-            Slot::Served(served) => served.over(now),
-            Slot::Drained(drain, share) => {
+            Slot::Free(place) => Slot::Free(place),
+            Slot::Served(served) => {
+                let number = served.number();
+                match served.end() {
+                    Ok((wire, place, ended)) => left(number, wire, place, ended, now),
+                    Err(served) => Slot::Served(served),
+                }
+            }
+            Slot::Drained(drain, place) => {
                 drop(drain);
-                Slot::Free(share)
+                Slot::Free(place)
             }
             Slot::TakenOut => Slot::TakenOut,
         }
     }
 
-    /// Its share. A connection that is still served is given up.
-    pub fn into_share<D: Device, G: Gate, H: Wait>(
-        self,
-        worker: &Worker<'_, D, S, T, A, G, H>,
-    ) -> Option<Share<S, T>> {
-        match self {
-            Slot::Free(share) => Some(share),
-            Slot::Served(served) => Some(served.into_share(worker)),
-            Slot::Drained(drain, share) => {
-                drop(drain);
-                Some(share)
-            }
-            Slot::TakenOut => None,
+    /// Its place. A connection that isn't over yet comes back.
+    pub fn into_place(self) -> Result<Option<Place<S, T, A>>, Slot<S, T, A>> {
+        match self.over(None) {
+            Slot::Free(place) => Ok(Some(place)),
+            Slot::TakenOut => Ok(None),
+            other => Err(other),
         }
     }
-}
-
-impl<S: Tally, T: Tally, A: Allocator + Copy> Served<S, T, A> {
-    // Since when its client says nothing, or takes nothing of a reply. None while it waits for the server.
-    fn silent_since(&self) -> Option<Instant> {
-        match self.dialogue.awaits() {
-            Awaits::Line | Awaits::Telling => self.moved,
-            Awaits::Claim | Awaits::Reply | Awaits::Leave | Awaits::Nothing => None,
-        }
-    }
-
-    // Until when its client has time, or waits for a claim. One without a session has as long for its last reply as it had for `hello`.
-    fn deadline(&self, patience: Patience) -> Option<Instant> {
-        let hello = if self.dialogue.has_session() {
-            None
-        } else {
-            patience.hello
-        };
-        match self.dialogue.awaits() {
-            Awaits::Claim => behind(self.moved, patience.wait),
-            Awaits::Telling => first_of(
-                behind(self.moved, patience.idle),
-                behind(self.moved, hello),
-            ),
-            Awaits::Line => first_of(
-                behind(self.moved, patience.idle),
-                first_of(
-                    behind(self.began, hello),
-                    behind(self.line_began, patience.line),
-                ),
-            ),
-            Awaits::Reply | Awaits::Leave | Awaits::Nothing => None,
-        }
-    }
-
-    fn is_late(&self, patience: Patience, now: Option<Instant>) -> bool {
-        match (self.deadline(patience), now) {
-            (Some(deadline), Some(now)) => deadline <= now,
-            _ => false,
-        }
-    }
-
-    // Takes steps if one may come to something. If its client took too long, it loses patience.
-    fn turn<D: Device, G: Gate, H: Wait>(
-        &mut self,
-        worker: &Worker<'_, D, S, T, A, G, H>,
-        patience: Patience,
-        now: Option<Instant>,
-    ) -> Progress {
-        let progress = if self.is_ready {
-            self.steps(worker, patience, now)
-        } else {
-            Progress::Rests
-        };
-        self.is_ready = progress == Progress::On;
-        if progress != Progress::Over && self.is_late(patience, now) {
-            self.lose_patience(worker);
-            return Progress::On;
-        }
-        progress
-    }
-
-    // Its time is over: if it keeps a `wait`, that is staged next. Else its client took too long, and it is given up.
-    fn lose_patience<D: Device, G: Gate, H: Wait>(
-        &mut self,
-        worker: &Worker<'_, D, S, T, A, G, H>,
-    ) {
-        if self.dialogue.awaits() == Awaits::Claim {
-            self.dialogue.let_go();
-            self.is_ready = true;
-        } else {
-            self.give_up(worker);
-        }
-    }
-
-    // Reads and writes nothing more. What is left is done in the next round.
-    fn give_up<D: Device, G: Gate, H: Wait>(&mut self, worker: &Worker<'_, D, S, T, A, G, H>) {
-        self.dialogue.give_up(worker);
-        self.is_ready = true;
-    }
-
-    // Takes steps until the next one comes to nothing, or it took as many, or heard as much, as it may in a round.
-    fn steps<D: Device, G: Gate, H: Wait>(
-        &mut self,
-        worker: &Worker<'_, D, S, T, A, G, H>,
-        patience: Patience,
-        now: Option<Instant>,
-    ) -> Progress {
-        self.dialogue.begin_round();
-        for _ in 0..STEPS_A_ROUND {
-            if self.is_ending {
-                // A client that sends no more may be gone. It must not keep others from waiting.
-                self.dialogue.let_go();
-            }
-            match self.dialogue.step(worker) {
-                Step::Went => {
-                    self.moved = now;
-                    self.line_began = None;
-                    if self.is_late(patience, now) {
-                        self.lose_patience(worker);
-                    }
-                    if self.dialogue.awaits() == Awaits::Reply {
-                        // What was staged just now isn't durable yet.
-                        return Progress::Rests;
-                    }
-                }
-                Step::Dry => return self.runs_dry(now),
-                Step::Waits | Step::Full => return Progress::Rests,
-                Step::Over => return Progress::Over,
-            }
-        }
-        Progress::On
-    }
-
-    // There is no whole line for now, or not in this round.
-    fn runs_dry(&mut self, now: Option<Instant>) -> Progress {
-        if self.line_began.is_none() && self.dialogue.is_within_line() {
-            self.line_began = now;
-        }
-        if self.dialogue.is_spent() {
-            Progress::On
-        } else {
-            Progress::Rests
-        }
-    }
-
-    // What is left of it once it is over. Until then it is served on.
-    fn over(self, now: Option<Instant>) -> Slot<S, T, A> {
-        if self.dialogue.awaits() != Awaits::Nothing {
-            return Slot::Served(self);
-        }
-        let Served {
-            number,
-            dialogue,
-            is_ready: _,
-            is_ending: _,
-            began: _,
-            moved: _,
-            line_began: _,
-        } = self;
-        left_of(number, dialogue, now)
-    }
-
-    // Its share, where its thread ends before it is over. It is given up, and gets no last leave.
-    fn into_share<D: Device, G: Gate, H: Wait>(
-        self,
-        worker: &Worker<'_, D, S, T, A, G, H>,
-    ) -> Share<S, T> {
-        let Served {
-            number: _,
-            dialogue,
-            is_ready: _,
-            is_ending: _,
-            began: _,
-            moved: _,
-            line_began: _,
-        } = self;
-        let mut dialogue = dialogue;
-        dialogue.give_up(worker);
-        let (wire, share, _) = parts_of(dialogue);
-        drop(wire);
-        share
-    }
-}
-
-// What is left of one that is over: its session has its last leave.
-fn left_of<S: Tally, T: Tally, A: Allocator + Copy>(
-    number: u32,
-    dialogue: Dialogue<Wire, S, T, A>,
-    now: Option<Instant>,
-) -> Slot<S, T, A>
-    requires over { dialogue.is_over ≡ true }
-    requires ended { dialogue.has_ended ≡ true }
-{
-    let (wire, share, ended) = parts_of(dialogue);
-    left(number, wire, share, ended, now)
-}
-
-// Its connection, its share, and why it ended.
-fn parts_of<S: Tally, T: Tally, A: Allocator + Copy>(
-    dialogue: Dialogue<Wire, S, T, A>,
-) -> (Wire, Share<S, T>, Ended)
-    requires { dialogue.has_ended ≡ true }
-{
-    let (wire, finished) = dialogue.finish();
-    let (share, ended) = finished.into_share();
-    (wire, share, ended)
-}
-
-// This time after a moment.
-fn behind(moment: Option<Instant>, time: Option<Duration>) -> Option<Instant> {
-    moment?.checked_add(time?)
 }

@@ -5,6 +5,7 @@ use Rattle.std.specs.Prelude.{◌==◌}
 use Rattle.std.specs.Io.KnownBytes.{Appends}
 use Rattle.std.proofs.KnownBytes.{Appends-nil}
 use Rattle.line_inlet.specs.Inflow.{Inflow}
+use Rattle.line_inlet.specs.Reading.{Reading}
 use Rattle.group_commit.specs.View.{View}
 use Rattle.vault_desk.specs.Serving.{AreSeen, session_of, left_behind, lost_by, Counts, CountsWith}
 use Rattle.vault_desk.specs.Talking.{Stands, Knows, TellsOn}
@@ -24,7 +25,7 @@ use Rattle.vault_desk.specs.declared.waits.PendingWait.{PendingWait}
 use Rattle.vault_desk.proofs.Talks.{part_end, ends_so, readers, told_on}
 
 -- its session is the one that the answers leave open
-pub stands_for : {A : Type 0} (next : Next A) (r0 r w0 w : Option (List ℕ)) (s0 : Totals) (inflow : Inflow) (kept : List ℕ) (is_long : Bool)
+pub stands_for : {A : Type 0} (next : Next A) (r0 r : Reading) (w0 w : Option (List ℕ)) (s0 : Totals) (inflow : Inflow) (kept : List ℕ) (is_long : Bool)
     (outs : List (Out A)) (session : ℕ) (share : Totals) → StandsIn next r0 r w0 w s0 inflow kept is_long outs session share → session ≡ session_of 0 outs
 stands_for (Takes turn) r0 r w0 w s0 inflow kept is_long outs session share h = h.session_is
 stands_for (GivenUp ended) r0 r w0 w s0 inflow kept is_long outs session share h = h.session_is
@@ -96,7 +97,7 @@ counts_leave old mid new outs lost h more stands = record {
 }
 
 -- a conversation that ended is done with no last leave
-pub done_so : {A : Type 0} (ended : Ended) (r0 r w0 w : Option (List ℕ)) (s0 : Totals) (inflow : Inflow) (kept : List ℕ) (is_long : Bool)
+pub done_so : {A : Type 0} (ended : Ended) (r0 r : Reading) (w0 w : Option (List ℕ)) (s0 : Totals) (inflow : Inflow) (kept : List ℕ) (is_long : Bool)
     (outs : List (Out A)) (session : ℕ) (share : Totals)
     → Stands (Over ended) r0 r w0 w s0 inflow kept is_long outs session share → IsDone ended r0 r w0 w s0 outs session share
 done_so ended r0 r w0 w s0 inflow kept is_long outs session share h = record {
@@ -110,7 +111,7 @@ done_so ended r0 r w0 w s0 inflow kept is_long outs session share h = record {
 }
 
 -- and with one of the session that is open
-pub done_left : {A : Type 0} (ended : Ended) (r0 r w0 w : Option (List ℕ)) (s0 : Totals) (inflow : Inflow) (kept : List ℕ) (is_long : Bool)
+pub done_left : {A : Type 0} (ended : Ended) (r0 r : Reading) (w0 w : Option (List ℕ)) (s0 : Totals) (inflow : Inflow) (kept : List ℕ) (is_long : Bool)
     (outs : List (Out A)) (session : ℕ) (share new : Totals)
     → Stands (Over ended) r0 r w0 w s0 inflow kept is_long outs session share → session ≢ 0 → Counts share 0 1 new
     → IsDone ended r0 r w0 w s0 outs session new
@@ -125,7 +126,7 @@ done_left ended r0 r w0 w s0 inflow kept is_long outs session share new h stands
 }
 
 -- a conversation that would hear a line ends as a reader that fails
-pub stops_hearing : {A : Type 0} (r0 r w0 w : Option (List ℕ)) (s0 : Totals) (inflow : Inflow) (kept : List ℕ) (is_long : Bool)
+pub stops_hearing : {A : Type 0} (r0 r : Reading) (w0 w : Option (List ℕ)) (s0 : Totals) (inflow : Inflow) (kept : List ℕ) (is_long : Bool)
     (outs : List (Out A)) (session : ℕ) (share : Totals)
     → Stands Hear r0 r w0 w s0 inflow kept is_long outs session share → Stands (Over ends.Read) r0 r w0 w s0 inflow kept is_long outs session share
 stops_hearing r0 r w0 w s0 inflow kept is_long outs session share h =
@@ -133,7 +134,7 @@ stops_hearing r0 r w0 w s0 inflow kept is_long outs session share h =
     (part_end r0 r inflow kept is_long outs ends.Read h.heard (λ given left. tt)) (readers ends.Read tt) h
 
 -- one that has bytes of an answer to write ends as a writer that fails
-pub stops_telling : {A : Type 0} (telling : Telling A) (r0 r w0 w : Option (List ℕ)) (s0 : Totals) (inflow : Inflow) (kept : List ℕ) (is_long : Bool)
+pub stops_telling : {A : Type 0} (telling : Telling A) (r0 r : Reading) (w0 w : Option (List ℕ)) (s0 : Totals) (inflow : Inflow) (kept : List ℕ) (is_long : Bool)
     (outs : List (Out A)) (session : ℕ) (share : Totals) → telling.written < length telling.text.items
     → Stands (Tell telling) r0 r w0 w s0 inflow kept is_long outs session share → Stands (Over ends.Write) r0 r w0 w s0 inflow kept is_long outs session share
 stops_telling telling r0 r w0 w s0 inflow kept is_long outs session share less h =
@@ -145,14 +146,14 @@ told_nothing : {A : Type 0} (telling : Telling A) (w : Option (List ℕ)) → le
     → Appends w w (drop telling.written telling.text.items)
 told_nothing telling w long = subst (Appends w w) (sym (drop_of_length-le telling.text.items {i = telling.written} long)) (Appends-nil w)
 
-pub stops_told : {A : Type 0} (telling : Telling A) (r0 r w0 w : Option (List ℕ)) (s0 : Totals) (inflow : Inflow) (kept : List ℕ) (is_long : Bool)
+pub stops_told : {A : Type 0} (telling : Telling A) (r0 r : Reading) (w0 w : Option (List ℕ)) (s0 : Totals) (inflow : Inflow) (kept : List ℕ) (is_long : Bool)
     (outs : List (Out A)) (session : ℕ) (share : Totals) → length telling.text.items ≤ telling.written → telling.is_left ≡ false
     → Stands (Tell telling) r0 r w0 w s0 inflow kept is_long outs session share → Stands (Over ends.Read) r0 r w0 w s0 inflow kept is_long outs session share
 stops_told telling r0 r w0 w s0 inflow kept is_long outs session share long stays h =
     stops_hearing r0 r w0 w s0 inflow kept is_long outs session share
     (told_on telling Hear r0 r w0 w w s0 inflow kept is_long outs session share (told_nothing telling w long, stays) h)
 
-pub stops_left : {A : Type 0} (telling : Telling A) (r0 r w0 w : Option (List ℕ)) (s0 : Totals) (inflow : Inflow) (kept : List ℕ) (is_long : Bool)
+pub stops_left : {A : Type 0} (telling : Telling A) (r0 r : Reading) (w0 w : Option (List ℕ)) (s0 : Totals) (inflow : Inflow) (kept : List ℕ) (is_long : Bool)
     (outs : List (Out A)) (session : ℕ) (share : Totals) → length telling.text.items ≤ telling.written → telling.is_left ≡ true
     → Stands (Tell telling) r0 r w0 w s0 inflow kept is_long outs session share → Stands (Over ends.Quit) r0 r w0 w s0 inflow kept is_long outs session share
 stops_left telling r0 r w0 w s0 inflow kept is_long outs session share long left h =

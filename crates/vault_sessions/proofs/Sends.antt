@@ -7,7 +7,7 @@ use Rattle.std.proofs.Crossing.{crosses as locks}
 use Rattle.std.specs.declared.sync.ledger.Ledger.{Ghosts as LedgerGhosts}
 use Rattle.vault_device.specs.declared.device.Device.{Ghosts as DeviceGhosts}
 pub use Rattle.vault_desk.specs.declared.tally.Tally.{Ghosts as TallyGhosts}
-pub use Rattle.vault_desk.proofs.Sends.{share_send, shared_sync}
+pub use Rattle.vault_desk.proofs.Sends.{share_send, shared_sync, sight_send}
 use Rattle.vault_sessions.specs.contracts.worker.Worker as Worker
 
 module _ (D S T A : RattleType) (d : DeviceGhosts D.Denot) (sc : TallyGhosts S.Denot) (sl : LedgerGhosts S.Denot) (tc : TallyGhosts T.Denot) (tl : LedgerGhosts T.Denot) (g : Ghosts A.Denot) where

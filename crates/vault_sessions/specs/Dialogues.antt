@@ -1,8 +1,9 @@
 -- What holds of a dialogue between two steps. This project's own.
 use Rattle.std.specs.Prelude.{◌≡◌, ◌≢◌, ℕ, ◌≤◌, Bool, true, false, List, length, Option, Some, None}
 use Rattle.line_inlet.specs.Inflow.{Inflow}
+use Rattle.line_inlet.specs.Reading.{Reading}
 use Rattle.group_commit.specs.View.{View}
-use Rattle.vault_desk.specs.Sights.{seen_by}
+use Rattle.vault_desk.specs.Sights.{seen_by, HasItsLeave}
 use Rattle.vault_desk.specs.Serving.{AreSeen, most_lines, HeardAll, SpeaksFor, session_of, WritesAll, QuitsBy, CountsAll}
 use Rattle.vault_desk.specs.Talking.{Stands, Knows}
 use Rattle.vault_desk.specs.declared.report.Out.{Out}
@@ -20,7 +21,7 @@ use Rattle.vault_desk.specs.declared.turn.Turn.TheVariants.{Hear, Keep, Wait, Te
 use Rattle.vault_sessions.specs.declared.next.Next.TheVariants.{Takes, GivenUp, Done, TakenOut}
 
 -- What a conversation came to in all, also with its last leave: what it heard, whom it spoke for, what it wrote and what it counted.
-pub record IsDone {A : Type 0} (ended : Ended) (reader_old reader_new writer_old writer_new : Option (List ℕ)) (counts : Totals)
+pub record IsDone {A : Type 0} (ended : Ended) (reader_old reader_new : Reading) (writer_old writer_new : Option (List ℕ)) (counts : Totals)
     (outs : List (Out A)) (session : ℕ) (share : Totals) : Type 0 where
   pub heard : HeardAll reader_old reader_new outs ended
   pub few : length outs ≤ most_lines
@@ -31,7 +32,7 @@ pub record IsDone {A : Type 0} (ended : Ended) (reader_old reader_new writer_old
   pub counted : CountsAll counts outs ended share
 
 -- what it has come to, by what comes next; one that is done has the last leave of its session; its next turn is out only within a step
-abbrev pub StandsIn : {A : Type 0} → Next A → (reader_old reader_new writer_old writer_new : Option (List ℕ)) → Totals → Inflow → List ℕ → Bool
+abbrev pub StandsIn : {A : Type 0} → Next A → (reader_old reader_new : Reading) (writer_old writer_new : Option (List ℕ)) → Totals → Inflow → List ℕ → Bool
     → List (Out A) → ℕ → Totals → Type 0
 StandsIn (Takes turn) reader_old reader_new writer_old writer_new counts inflow kept is_long outs session share =
     Stands turn reader_old reader_new writer_old writer_new counts inflow kept is_long outs session share
@@ -41,11 +42,11 @@ StandsIn (Done ended left) reader_old reader_new writer_old writer_new counts in
     IsDone ended reader_old reader_new writer_old writer_new counts outs session share × (left ≡ session)
 StandsIn TakenOut reader_old reader_new writer_old writer_new counts inflow kept is_long outs session share = ⊥
 
--- what it saw of the vault shows what it needs to, by what comes next
+-- what it saw of the vault shows what it needs to, by what comes next; once it is done also that its session has its leave
 abbrev pub KnowsIn : {A : Type 0} → Next A → List View → List (Out A) → Type 0
 KnowsIn (Takes turn) seen outs = Knows turn seen outs
 KnowsIn (GivenUp ended) seen outs = AreSeen seen outs
-KnowsIn (Done ended left) seen outs = AreSeen seen outs
+KnowsIn (Done ended left) seen outs = AreSeen seen outs × HasItsLeave seen (session_of 0 outs)
 KnowsIn TakenOut seen outs = ⊥
 
 -- it left this session, and has the last leave of it
@@ -54,7 +55,7 @@ HasLeft (Some left) session = left ≡ session
 HasLeft None session = ⊥
 
 -- the same for a conversation
-abbrev pub TalksOn : {S T A : Type 0} {s : TallyGhosts S} {t : TallyGhosts T} → Next A → (reader_old reader_new writer_old writer_new : Option (List ℕ))
+abbrev pub TalksOn : {S T A : Type 0} {s : TallyGhosts S} {t : TallyGhosts T} → Next A → (reader_old reader_new : Reading) (writer_old writer_new : Option (List ℕ))
     → Totals → Conversation S T A s t → Type 0
 TalksOn next reader_old reader_new writer_old writer_new counts talk =
     StandsIn next reader_old reader_new writer_old writer_new counts talk.inlet talk.line.items talk.is_long talk.answers.outs talk.session talk.share

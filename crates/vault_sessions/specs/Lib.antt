@@ -7,5 +7,7 @@ pub use Rattle.vault_desk.specs.Serving
 pub use Rattle.vault_desk.specs.Talking
 pub use Rattle.vault_desk.specs.Answered
 pub use Rattle.vault_desk.specs.Waiting
+pub use Rattle.vault_desk.specs.Flushes
 pub mod AtTalk
 pub mod Dialogues
+pub mod Reports

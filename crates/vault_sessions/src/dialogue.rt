@@ -2,8 +2,10 @@
 ghost use Rattle.std.specs.Prelude.{◌≡◌, ◌≢◌, ◌≤◌, ◌↔◌, ◌||◌, ℕ, Bool, IsTrue, MatchBool, true, false, List, Option, None, IfOk, IfErr, OnOk, OnErr, length, ◌+◌};
 ghost use mathlib.Core.List.{IsPrefix};
 ghost use Rattle.line_inlet.specs.Inflow.{Inflow};
+ghost use Rattle.line_inlet.specs.Reading.{Reading};
 ghost use Rattle.group_commit.specs.View.{View};
-ghost use Rattle.vault_desk.specs.Sights.{seen_by};
+ghost use Rattle.vault_desk.specs.Sights.{seen_by, WasLeft, WasBroken, HasItsLeave};
+ghost use Rattle.vault_model.specs.declared.replies.Outside.TheVariants.{Broken};
 ghost use Rattle.vault_desk.specs.Serving.{AreSeen, Counts, most_lines, HeardAll, SpeaksFor, session_of, CountsAll, WritesAll, QuitsBy};
 ghost use Rattle.vault_desk.specs.Talking.{Stands, StandsAt, Knows};
 ghost use Rattle.vault_sessions.specs.Dialogues.{IsDone, StandsIn, KnowsIn, TalksOn, HasLeft, StepsBy, is_done, has_ended, awaits_of};
@@ -83,13 +85,13 @@ impl<C: Connection, S: Tally, T: Tally, A: Allocator> Model for Dialogue<C, S, T
 
     ghost view = { λ d. record {
       began = record {
-        remaining = C.remaining d.began.value;
+        reading = C.reading d.began.value;
         contents = C.contents d.began.value;
         counted = d.counted.value;
         names = C.names d.connection;
         keeps = d.talk.answers.is_kept;
       };
-      remaining = C.remaining d.connection;
+      reading = C.reading d.connection;
       contents = C.contents d.connection;
       session = d.talk.session;
       awaits = awaits_of d.next;
@@ -98,7 +100,7 @@ impl<C: Connection, S: Tally, T: Tally, A: Allocator> Model for Dialogue<C, S, T
     } };
 
     // The invariant of lib.rt.
-    ghost invariant = { λ d. TalksOn d.next (C.remaining d.began.value) (C.remaining d.connection) (C.contents d.began.value)
+    ghost invariant = { λ d. TalksOn d.next (C.reading d.began.value) (C.reading d.connection) (C.contents d.began.value)
         (C.contents d.connection) d.counted.value d.talk };
 }
 
@@ -114,13 +116,13 @@ impl<C: Connection, S: Tally, T: Tally, A: Allocator + Copy> Dialogue<C, S, T, A
     ) -> Result<Dialogue<C, S, T, A>, (C, Share<S, T>)>
         ensures made { IfOk result (λ dialogue. dialogue ≡ record {
           began = record {
-            remaining = C.remaining connection;
+            reading = C.reading connection;
             contents = C.contents connection;
             counted = share;
             names = C.names connection;
             keeps = keeps;
           };
-          remaining = C.remaining connection;
+          reading = C.reading connection;
           contents = C.contents connection;
           session = 0;
           awaits = awaited.Line;
@@ -153,7 +155,7 @@ impl<C: Connection, S: Tally, T: Tally, A: Allocator + Copy> Dialogue<C, S, T, A
         ensures came { StepsBy result self.old.awaits self.new.awaits }
         ensures over { (result ≡ steps.Over) ↔ (self.new.is_over ≡ true) }
         ensures ended { self.new.has_ended ≡ (self.new.is_over || self.old.has_ended) }
-        ensures silent { self.old.has_ended ≡ true → (self.new.remaining ≡ self.old.remaining) × (self.new.contents ≡ self.old.contents) }
+        ensures silent { self.old.has_ended ≡ true → (self.new.reading ≡ self.old.reading) × (self.new.contents ≡ self.old.contents) }
     {
         let next = mem::replace(&mut self.next, Next::TakenOut);
         let (next, step) = advance(&worker.clerk(), &mut self.talk, &mut self.connection, next);
@@ -166,7 +168,7 @@ impl<C: Connection, S: Tally, T: Tally, A: Allocator + Copy> Dialogue<C, S, T, A
         ensures same { (self.new.began ≡ self.old.began) × (self.new.session ≡ self.old.session) × (self.new.is_over ≡ self.old.is_over) }
         ensures leaves { MatchBool self.old.is_over (self.new.awaits ≡ awaited.Nothing) (self.new.awaits ≡ awaited.Leave) }
         ensures ended { self.new.has_ended ≡ true }
-        ensures silent { (self.new.remaining ≡ self.old.remaining) × (self.new.contents ≡ self.old.contents) }
+        ensures silent { (self.new.reading ≡ self.old.reading) × (self.new.contents ≡ self.old.contents) }
     {
         let next = mem::replace(&mut self.next, Next::TakenOut);
         let next = give_up(&worker.clerk(), next);
@@ -233,8 +235,8 @@ impl<C: Connection, S: Tally, T: Tally, A: Allocator + Copy> Dialogue<C, S, T, A
     /// last leave any more.
     pub fn finish(self) -> (C, Finished<S, T, A>)
         requires { self.has_ended ≡ true }
-        ensures connection { (C.remaining result.0 ≡ self.remaining) × (C.contents result.0 ≡ self.contents) × (C.names result.0 ≡ self.began.names) }
-        ensures heard { HeardAll self.began.remaining self.remaining result.1.answers.outs result.1.ended }
+        ensures connection { (C.reading result.0 ≡ self.reading) × (C.contents result.0 ≡ self.contents) × (C.names result.0 ≡ self.began.names) }
+        ensures heard { HeardAll self.began.reading self.reading result.1.answers.outs result.1.ended }
         ensures few { length result.1.answers.outs ≤ most_lines }
         ensures spoken { SpeaksFor 0 result.1.answers.outs }
         ensures told { AreSeen (seen_by result.1.sight) result.1.answers.outs }
@@ -243,6 +245,7 @@ impl<C: Connection, S: Tally, T: Tally, A: Allocator + Copy> Dialogue<C, S, T, A
         ensures quit { QuitsBy result.1.ended result.1.answers.outs }
         ensures counted { CountsAll self.began.counted result.1.answers.outs result.1.ended result.1.share }
         ensures left { self.is_over ≡ true → HasLeft result.1.left (session_of 0 result.1.answers.outs) }
+        ensures gone { self.is_over ≡ true → HasItsLeave (seen_by result.1.sight) (session_of 0 result.1.answers.outs) }
         ensures given_up { self.is_over ≡ false → result.1.left ≡ None }
         ensures kept { result.1.answers.is_kept ≡ self.began.keeps }
     {
@@ -298,15 +301,15 @@ fn advance<D: Device, S: Tally, T: Tally, A: Allocator + Copy, G: Gate, H: Wait,
     next: Next<A>,
 ) -> (Next<A>, Step)
     requires { talk.old.session ≡ session_of 0 talk.old.answers.outs }
-    ensures stands { (reader_old writer_old : Option (List ℕ)) (counts : Totals)
-        → TalksOn next reader_old (C.remaining connection.old) writer_old (C.contents connection.old) counts talk.old
-        → TalksOn result.0 reader_old (C.remaining connection.new) writer_old (C.contents connection.new) counts talk.new }
+    ensures stands { (reader_old : Reading) (writer_old : Option (List ℕ)) (counts : Totals)
+        → TalksOn next reader_old (C.reading connection.old) writer_old (C.contents connection.old) counts talk.old
+        → TalksOn result.0 reader_old (C.reading connection.new) writer_old (C.contents connection.new) counts talk.new }
     ensures same { (C.names connection.new ≡ C.names connection.old) × (talk.new.answers.is_kept ≡ talk.old.answers.is_kept) }
     ensures came { StepsBy result.1 (awaits_of next) (awaits_of result.0) }
     ensures over { (result.1 ≡ steps.Over) ↔ (is_done result.0 ≡ true) }
     ensures ended { has_ended result.0 ≡ (is_done result.0 || has_ended next) }
     ensures silent { has_ended next ≡ true
-        → (C.remaining connection.new ≡ C.remaining connection.old) × (C.contents connection.new ≡ C.contents connection.old) }
+        → (C.reading connection.new ≡ C.reading connection.old) × (C.contents connection.new ≡ C.contents connection.old) }
 {
     match next {
         Next::Takes(Turn::Hear) => hear(clerk, talk, connection),
@@ -326,9 +329,9 @@ fn hear<D: Device, S: Tally, T: Tally, A: Allocator + Copy, G: Gate, H: Wait, C:
     talk: &mut Conversation<S, T, A>,
     connection: &mut C,
 ) -> (Next<A>, Step)
-    ensures stands { (reader_old writer_old : Option (List ℕ)) (counts : Totals)
-        → StandsAt turns.Hear reader_old (C.remaining connection.old) writer_old (C.contents connection.old) counts talk.old
-        → TalksOn result.0 reader_old (C.remaining connection.new) writer_old (C.contents connection.new) counts talk.new }
+    ensures stands { (reader_old : Reading) (writer_old : Option (List ℕ)) (counts : Totals)
+        → StandsAt turns.Hear reader_old (C.reading connection.old) writer_old (C.contents connection.old) counts talk.old
+        → TalksOn result.0 reader_old (C.reading connection.new) writer_old (C.contents connection.new) counts talk.new }
     ensures same { (C.names connection.new ≡ C.names connection.old) × (talk.new.answers.is_kept ≡ talk.old.answers.is_kept) }
     ensures came { StepsBy result.1 awaited.Line (awaits_of result.0) }
     ensures over { (result.1 ≡ steps.Over) ↔ (is_done result.0 ≡ true) }
@@ -346,7 +349,7 @@ fn stage_kept<D: Device, S: Tally, T: Tally, A: Allocator + Copy, G: Gate, H: Wa
     talk: &mut Conversation<S, T, A>,
     kept: PendingWait,
 ) -> (Next<A>, Step)
-    ensures stands { (reader_old reader_new writer_old writer_new : Option (List ℕ)) (counts : Totals)
+    ensures stands { (reader_old reader_new : Reading) (writer_old writer_new : Option (List ℕ)) (counts : Totals)
         → StandsAt (turns.Keep kept) reader_old reader_new writer_old writer_new counts talk.old
         → TalksOn result.0 reader_old reader_new writer_old writer_new counts talk.new }
     ensures kept { talk.new.answers.is_kept ≡ talk.old.answers.is_kept }
@@ -366,7 +369,7 @@ fn settle<D: Device, S: Tally, T: Tally, A: Allocator + Copy, G: Gate, H: Wait>(
     talk: &mut Conversation<S, T, A>,
     ticket: Ticket<A>,
 ) -> (Next<A>, Step)
-    ensures stands { (reader_old reader_new writer_old writer_new : Option (List ℕ)) (counts : Totals)
+    ensures stands { (reader_old reader_new : Reading) (writer_old writer_new : Option (List ℕ)) (counts : Totals)
         → StandsAt (turns.Wait ticket) reader_old reader_new writer_old writer_new counts talk.old
         → TalksOn result.0 reader_old reader_new writer_old writer_new counts talk.new }
     ensures kept { talk.new.answers.is_kept ≡ talk.old.answers.is_kept }
@@ -382,10 +385,10 @@ fn settle<D: Device, S: Tally, T: Tally, A: Allocator + Copy, G: Gate, H: Wait>(
 
 // Writes an answer.
 fn tell_on<A: Allocator, C: Connection>(connection: &mut C, telling: Telling<A>) -> (Next<A>, Step)
-    ensures stands { (reader_old writer_old : Option (List ℕ)) (counts : Totals) (inflow : Inflow) (kept : List ℕ) (is_long : Bool)
+    ensures stands { (reader_old : Reading) (writer_old : Option (List ℕ)) (counts : Totals) (inflow : Inflow) (kept : List ℕ) (is_long : Bool)
         (outs : List (Out A)) (session : ℕ) (share : Totals)
-        → Stands (turns.Tell telling) reader_old (C.remaining connection.old) writer_old (C.contents connection.old) counts inflow kept is_long outs session share
-        → StandsIn result.0 reader_old (C.remaining connection.new) writer_old (C.contents connection.new) counts inflow kept is_long outs session share }
+        → Stands (turns.Tell telling) reader_old (C.reading connection.old) writer_old (C.contents connection.old) counts inflow kept is_long outs session share
+        → StandsIn result.0 reader_old (C.reading connection.new) writer_old (C.contents connection.new) counts inflow kept is_long outs session share }
     ensures knows { (seen : List View) (outs : List (Out A)) → AreSeen seen outs → KnowsIn result.0 seen outs }
     ensures same { C.names connection.new ≡ C.names connection.old }
     ensures came { StepsBy result.1 awaited.Telling (awaits_of result.0) }
@@ -407,7 +410,7 @@ fn leave<D: Device, S: Tally, T: Tally, A: Allocator + Copy, G: Gate, H: Wait>(
     is_given_up: bool,
 ) -> (Next<A>, Step)
     requires { talk.old.session ≡ session_of 0 talk.old.answers.outs }
-    ensures stands { (reader_old reader_new writer_old writer_new : Option (List ℕ)) (counts : Totals)
+    ensures stands { (reader_old reader_new : Reading) (writer_old writer_new : Option (List ℕ)) (counts : Totals)
         → StandsAt (turns.Over ended) reader_old reader_new writer_old writer_new counts talk.old
         → TalksOn result.0 reader_old reader_new writer_old writer_new counts talk.new }
     ensures kept { talk.new.answers.is_kept ≡ talk.old.answers.is_kept }
@@ -452,6 +455,8 @@ fn try_leave<D: Device, S: Tally, T: Tally, A: Allocator + Copy, G: Gate, H: Wai
 ) -> Result<LastLeave, NotStaged>
     requires { session ≡ session_of 0 answers.now.outs }
     ensures left { IfOk result (λ left. left ≡ session) }
+    ensures shown { OnOk result (WasLeft (seen_by sight.new) session) }
+    ensures broken { IfErr result (λ why. why ≡ Broken → WasBroken (seen_by sight.new)) }
     ensures staged { OnOk result (share.new ≡ record share.old { staged = share.old.staged + 1 }) }
     ensures refused { OnErr result (share.new ≡ share.old) }
     ensures counted { Counts share.old 0 1 share.new }
@@ -472,7 +477,7 @@ fn end_turn<D: Device, S: Tally, T: Tally, A: Allocator + Copy, G: Gate, H: Wait
     clerk: &Clerk<'_, D, S, T, A, G, H>,
     turn: Turn<A>,
 ) -> Ended
-    ensures { (reader_old reader_new writer_old writer_new : Option (List ℕ)) (counts : Totals) (inflow : Inflow) (kept : List ℕ) (is_long : Bool)
+    ensures { (reader_old reader_new : Reading) (writer_old writer_new : Option (List ℕ)) (counts : Totals) (inflow : Inflow) (kept : List ℕ) (is_long : Bool)
         (outs : List (Out A)) (session : ℕ) (share : Totals)
         → Stands turn reader_old reader_new writer_old writer_new counts inflow kept is_long outs session share
         → Stands {A = A} (turns.Over result) reader_old reader_new writer_old writer_new counts inflow kept is_long outs session share }
@@ -494,7 +499,7 @@ fn end_turn<D: Device, S: Tally, T: Tally, A: Allocator + Copy, G: Gate, H: Wait
 
 // The same while an answer is being written. If it was written whole, it counts as answered.
 fn end_telling<A: Allocator>(telling: &Telling<A>) -> Ended
-    ensures { (reader_old reader_new writer_old writer_new : Option (List ℕ)) (counts : Totals) (inflow : Inflow) (kept : List ℕ) (is_long : Bool)
+    ensures { (reader_old reader_new : Reading) (writer_old writer_new : Option (List ℕ)) (counts : Totals) (inflow : Inflow) (kept : List ℕ) (is_long : Bool)
         (outs : List (Out A)) (session : ℕ) (share : Totals)
         → Stands (turns.Tell telling.now) reader_old reader_new writer_old writer_new counts inflow kept is_long outs session share
         → Stands {A = A} (turns.Over result) reader_old reader_new writer_old writer_new counts inflow kept is_long outs session share }
@@ -510,7 +515,7 @@ fn end_telling<A: Allocator>(telling: &Telling<A>) -> Ended
 
 // What comes next once a kept `wait` is released.
 fn let_go<A: Allocator>(next: Next<A>) -> Next<A>
-    ensures stands { (reader_old reader_new writer_old writer_new : Option (List ℕ)) (counts : Totals) (inflow : Inflow) (kept : List ℕ) (is_long : Bool)
+    ensures stands { (reader_old reader_new : Reading) (writer_old writer_new : Option (List ℕ)) (counts : Totals) (inflow : Inflow) (kept : List ℕ) (is_long : Bool)
         (outs : List (Out A)) (session : ℕ) (share : Totals)
         → StandsIn next reader_old reader_new writer_old writer_new counts inflow kept is_long outs session share
         → StandsIn result reader_old reader_new writer_old writer_new counts inflow kept is_long outs session share }
@@ -528,7 +533,7 @@ fn give_up<D: Device, S: Tally, T: Tally, A: Allocator + Copy, G: Gate, H: Wait>
     clerk: &Clerk<'_, D, S, T, A, G, H>,
     next: Next<A>,
 ) -> Next<A>
-    ensures stands { (reader_old reader_new writer_old writer_new : Option (List ℕ)) (counts : Totals) (inflow : Inflow) (kept : List ℕ) (is_long : Bool)
+    ensures stands { (reader_old reader_new : Reading) (writer_old writer_new : Option (List ℕ)) (counts : Totals) (inflow : Inflow) (kept : List ℕ) (is_long : Bool)
         (outs : List (Out A)) (session : ℕ) (share : Totals)
         → StandsIn next reader_old reader_new writer_old writer_new counts inflow kept is_long outs session share
         → StandsIn result reader_old reader_new writer_old writer_new counts inflow kept is_long outs session share }
@@ -547,15 +552,16 @@ fn give_up<D: Device, S: Tally, T: Tally, A: Allocator + Copy, G: Gate, H: Wait>
 // How it ended, and how it left its session.
 fn end<A: Allocator>(next: Next<A>) -> (Ended, Option<LastLeave>)
     requires { has_ended next ≡ true }
-    ensures done { (reader_old reader_new writer_old writer_new : Option (List ℕ)) (counts : Totals) (inflow : Inflow) (kept : List ℕ) (is_long : Bool)
+    ensures done { (reader_old reader_new : Reading) (writer_old writer_new : Option (List ℕ)) (counts : Totals) (inflow : Inflow) (kept : List ℕ) (is_long : Bool)
         (outs : List (Out A)) (session : ℕ) (share : Totals)
         → StandsIn next reader_old reader_new writer_old writer_new counts inflow kept is_long outs session share
         → IsDone {A = A} result.0 reader_old reader_new writer_old writer_new counts outs session share }
     ensures knows { (seen : List View) (outs : List (Out A)) → KnowsIn next seen outs → AreSeen seen outs }
-    ensures left { (reader_old reader_new writer_old writer_new : Option (List ℕ)) (counts : Totals) (inflow : Inflow) (kept : List ℕ) (is_long : Bool)
+    ensures left { (reader_old reader_new : Reading) (writer_old writer_new : Option (List ℕ)) (counts : Totals) (inflow : Inflow) (kept : List ℕ) (is_long : Bool)
         (outs : List (Out A)) (session : ℕ) (share : Totals)
         → StandsIn next reader_old reader_new writer_old writer_new counts inflow kept is_long outs session share
         → is_done next ≡ true → HasLeft result.1 (session_of 0 outs) }
+    ensures gone { (seen : List View) (outs : List (Out A)) → KnowsIn next seen outs → is_done next ≡ true → HasItsLeave seen (session_of 0 outs) }
     ensures given_up { is_done next ≡ false → result.1 ≡ None }
 {
     match next {

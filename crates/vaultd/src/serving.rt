@@ -120,7 +120,7 @@ pub(crate) fn serve<
     };
     teller.begin_serving();
     let served = run_server_on(rt, rt.alloc(), listener, vault, &options, &reporter);
-    let (vault, _) = served.map_err(failure_of)?;
+    let (vault, _, _) = served.map_err(failure_of)?;
     let is_broken = vault.is_broken();
     close_vault(vault);
     if is_broken {

@@ -1,5 +1,5 @@
 use Rattle.std.proofs.Common.{◌≡◌, ◌≤◌, ◌-◌, List, ℕ, vec_capacity}
-use Rattle.std.specs.Io.KnownBytes.{Consumes}
+use Rattle.line_inlet.specs.Reading.{Gave}
 use Rattle.line_inlet.specs.Incoming.{most_bytes, KeepsLine}
 use Rattle.line_inlet.proofs.Bytes.{IsSoFar}
 use Rattle.line_inlet.proofs.inlet.Inlet.next_line.Given as goal
@@ -10,7 +10,7 @@ invariant-loop-is_longer g l =
     (vec_capacity l.initial.line ≤ vec_capacity l.line)
     × ((part : List ℕ) → KeepsLine part l.initial.line.items l.initial.is_long
     → (given : List ℕ) × (piece : List ℕ)
-    × Consumes (g.C.Connection.remaining l.initial.connection) (g.C.Connection.remaining l.connection) given
+    × Gave (g.C.Connection.reading l.initial.connection) (g.C.Connection.reading l.connection) given
     × IsSoFar l.initial.self given part piece l.line.items l.is_long l.self)
     × (g.C.Connection.contents l.connection ≡ g.C.Connection.contents l.initial.connection)
     × (g.C.Connection.names l.connection ≡ g.C.Connection.names l.initial.connection)

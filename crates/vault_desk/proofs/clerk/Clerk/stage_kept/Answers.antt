@@ -1,5 +1,6 @@
 use Rattle.std.proofs.Common.{◌≡◌, List, [], ◌∷◌, ◌++◌, ap, ◌∙◌}
 use Rattle.vault_model.specs.declared.commands.Command.TheVariants.{Await}
+use Rattle.vault_desk.specs.declared.waits.PendingWait.{PendingWait}
 use Rattle.vault_desk.specs.declared.report.Out.{Out}
 use Rattle.vault_desk.specs.declared.report.Out.TheVariants.{Refused}
 use Rattle.vault_desk.proofs.Talks.{keeps_on, stages_kept, refuses_kept, wants_kept}
@@ -8,7 +9,7 @@ use Rattle.vault_desk.proofs.clerk.Clerk.stage_kept.Goals as goal
 
 pub returns-in-Err-clause-stands : goal.returns-in-Err-clause-stands
 returns-in-Err-clause-stands g c = λ r0 r w0 w s0 h.
-    (keeps_on c.args.kept c.in-Err.kept r0 r w0 w s0 _ _ _ _ _ _ c.in-Err.ensures.stays.0 h.0, record { told = h.1.told; asked = tt })
+    (keeps_on c.args.kept c.in-Err.kept r0 r w0 w s0 _ _ _ _ _ _ (ap (λ (k : PendingWait). k.claim) c.in-Err.ensures.stays.0) h.0, record { told = h.1.told; asked = tt })
 
 pub returns-then-is_err-clause-stands : goal.returns-then-is_err-clause-stands
 returns-then-is_err-clause-stands g c = λ r0 r w0 w s0 h. rw c.reserve.ensures.same.0 (wants_kept c.args.kept r0 r w0 w s0 _ _ _ _ _ _ h.0, record { told = h.1.told; asked = tt })

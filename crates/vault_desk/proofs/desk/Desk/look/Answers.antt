@@ -3,7 +3,8 @@ use Rattle.std.proofs.lemmas.Bool.Decides.{nat_tests}
 use Rattle.group_commit.specs.Seen.{VaultSeen}
 use Rattle.vault_desk.specs.AtDesk.{AtDesk}
 use Rattle.vault_desk.specs.Sights.{WentThrough, seen_by}
-use Rattle.vault_desk.proofs.Seeing.{shown_told, told_now}
+use Rattle.vault_desk.proofs.Seeing.{told_now}
+use Rattle.vault_desk.proofs.Leaving.{saw_told}
 use Rattle.vault_desk.proofs.desk.Desk.look.Goals.{else-position-durable-via-then-position-durable+else-not-went_through, else-position-durable-via-else-position-durable}
 use Rattle.vault_desk.proofs.desk.Desk.look.Goals as goal
 
@@ -18,6 +19,5 @@ returns-in-Told-clause-shown g c = λ was.
       | else-position-durable-via-then-position-durable+else-not-went_through w ↦ w.went_through.ensures (search rules)
       | else-position-durable-via-else-position-durable w ↦ absurd (grind (arith, nat_tests, told.1.0, settled, c.position.ensures, c.durable.ensures, w.if-position-durable.false))
     ] in
-    let (before, is) = c.show-shown.ensures.shown in
-    shown_told before c.show-shown.result (seen_by c.add_to.new.sight) new c.in-Told.receipt is c.add_to.ensures.more
+    saw_told (seen_by c.show_to.new.sight) new c.in-Told.receipt c.show_to.ensures.shown
     (told_now g.S.Tally.beginning old new (seen_by c.args.sight.now) c.args.ticket c.in-Told.receipt went was told.1 told.3 (ap (λ (s : VaultSeen g.row.D.Denot). s.view) told.2))

@@ -88,6 +88,6 @@ returns-in_default g c =
         least_staged refl (ap (λ (t : Totals). t.staged) audit.same.1 ∙ i.2) audit.staged (audit.books.0 ∙ i.0 ∙ sym k.0),
         least_staged refl (ap (λ (t : Totals). t.told) audit.same.1 ∙ i.3) audit.told (audit.books.1 ∙ i.1 ∙ sym k.1),
       );
-      «open» = ap (λ (s : AtDesk g.row.D.Denot). s.closed) c.self.view_is;
+      «open» = (ap (λ (s : AtDesk g.row.D.Denot). s.closed) c.self.view_is, ap (λ (s : AtDesk g.row.D.Denot). s.waiting) c.self.view_is);
       answered = subst (λ (s : AtDesk g.row.D.Denot). IsAnswered s.vault c.redeem.new.self) c.self.view_is c.redeem.ensures.answered;
     }

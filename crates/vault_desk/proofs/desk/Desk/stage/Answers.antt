@@ -81,7 +81,7 @@ returns-in-Ok-clause-least g c =
 
 pub returns-in-Err-clause-refused : goal.returns-in-Err-clause-refused
 returns-in-Err-clause-refused g c =
-    (same_desk c.self.inside.vault c.stage.new.self c.self.inside.closed c.args.self.now c.in-Err.ensures.refused c.self.view_is, c.audit_beside.ensures.same.0)
+    (same_desk c.self.inside.vault c.stage.new.self c.self.inside.closed c.self.inside.waits.count c.args.self.now c.in-Err.ensures.refused c.self.view_is, c.audit_beside.ensures.same.0)
 
 pub returns-in-Err-clause-reason : goal.returns-in-Err-clause-reason
 returns-in-Err-clause-reason g c = subst (λ (s : AtDesk g.row.D.Denot). IsReason s.vault c.in-Err.refused.0) c.self.view_is c.in-Err.ensures.reason

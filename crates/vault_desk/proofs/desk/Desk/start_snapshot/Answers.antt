@@ -29,11 +29,11 @@ returns-clause-may_not g c = λ refused. subst (λ (s : AtDesk g.row.D.Denot). M
 
 pub returns-clause-not_now : goal.returns-clause-not_now
 returns-clause-not_now g c = λ refused.
-    same_desk c.self.inside.vault c.start_snapshot.new.self c.self.inside.closed c.args.self.now (c.start_snapshot.ensures.not_now refused) c.self.view_is
+    same_desk c.self.inside.vault c.start_snapshot.new.self c.self.inside.closed c.self.inside.waits.count c.args.self.now (c.start_snapshot.ensures.not_now refused) c.self.view_is
 
 pub returns-clause-refused : goal.returns-clause-refused
 returns-clause-refused g c =
-    same_on_error c.start_snapshot.result c.self.inside.vault c.start_snapshot.new.self c.self.inside.closed c.args.self.now c.start_snapshot.ensures.refused c.self.view_is
+    same_on_error c.start_snapshot.result c.self.inside.vault c.start_snapshot.new.self c.self.inside.closed c.self.inside.waits.count c.args.self.now c.start_snapshot.ensures.refused c.self.view_is
 
 pub returns-clause-memory : goal.returns-clause-memory
 returns-clause-memory g c =

@@ -1,0 +1,10 @@
+use Rattle.std.proofs.Common.{subst}
+use Rattle.vault_desk.specs.AtDesk.{AtDesk}
+use Rattle.vault_desk.specs.Acts.{GoesOn}
+use Rattle.vault_desk.proofs.desk.Desk.lets_go.Goals as goal
+
+pub returns-then-stays-clause-came : goal.returns-then-stays-clause-came
+returns-then-stays-clause-came g c = subst (λ (s : AtDesk g.row.D.Denot). GoesOn g.S.Tally.beginning s.vault.view) c.self.view_is c.self.invariant.4
+
+pub returns-clause-came : goal.returns-clause-came
+returns-clause-came g c = subst (λ (s : AtDesk g.row.D.Denot). GoesOn g.S.Tally.beginning s.vault.view) c.self.view_is c.self.invariant.4
