@@ -34,3 +34,4 @@ pub mod Positions
 pub mod Sends
 pub mod Openings
 pub mod Begun
+mod Besides

@@ -3,14 +3,19 @@ mod Disks
 pub mod Busy
 mod Renewals
 pub mod Asides
+pub mod Besides
+pub mod NewFiles
 mod Rests
 mod Kept
 mod Placed
 pub mod Left
 mod Sounds
 mod Advances
+mod Copying
+mod BesideRows
+mod BesideSteps
 mod Failed
-mod Renewed
+mod RenewalRows
 mod Exchanged
 mod New
 pub mod Creating
@@ -22,6 +27,7 @@ pub mod Growing
 pub mod TwoVaults
 mod Passes
 mod Companions
+mod Lanes
 mod Headed
 mod Pieces
 mod Made

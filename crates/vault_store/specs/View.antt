@@ -1,6 +1,4 @@
 -- What contracts see of a store's fields.
-use Rattle.std.specs.Prelude.{[]}
-use Rattle.std.specs.Option.{option_map_or}
 use Rattle.vault_store.specs.declared.store.Store.TheInside.{Inside}
 use Rattle.vault_store.specs.Seen.{StoreSeen}
 
@@ -18,5 +16,9 @@ seen_of store = record {
   phase = store.phase;
   broken = store.broken;
   shut = store.spare_shut;
-  rest = option_map_or (λ v. v.items) store.rest [];
+  rest = store.lane.bytes;
+  beside = store.beside;
+  from = store.from;
+  copied = store.lane.copied;
+  lane = store.lane.room;
 }
