@@ -34,4 +34,3 @@ pub mod Positions
 pub mod Sends
 pub mod Openings
 pub mod Begun
-mod Besides

@@ -1,6 +1,6 @@
 -- The numbers of a life stay in order over the phase table.
-use Rattle.std.specs.Prelude.{nat_le, Bool, not, ◌&&◌, true, false, cond}
-use Rattle.std.proofs.Common.{◌≡◌, ◌≢◌, ◌-◌, ℕ, ◌≤◌, true, false, cond, refl, ap, ◌∙◌, arith}
+use Rattle.std.specs.Prelude.{nat_le, Bool, true, false, cond}
+use Rattle.std.proofs.Common.{◌≡◌, ◌≢◌, ◌-◌, ℕ, ◌≤◌, true, false, cond, refl, arith}
 use Rattle.vault_store.specs.declared.phase.Phase.{Phase}
 use Rattle.vault_store.specs.declared.phase.Phase.TheVariants.{Idle, Written, Bodied, Opening, Start, Closing, Writing, Filled, Ready, SnapOpening}
 use Rattle.vault_store.specs.Phases.{Waiting, Nothing, NoEffects, Effects, DeviceCall, NoCall, Write, Sync, row, settled_by, after_fault, is_idle, most_piece}
@@ -106,15 +106,3 @@ fault_is_busy (Writing left) waiting length call = by_rest (nat_le left most_pie
 fault_is_busy Filled waiting length call = refl
 fault_is_busy Ready waiting length call = refl
 fault_is_busy SnapOpening waiting length call = refl
-
--- the order after a snapshot beside commits stands alone
-pub order_end : (all retired settled sealed : ℕ) (phase : Phase) → InOrder all retired settled sealed phase → InOrder all retired settled settled Filled
-order_end all retired settled sealed phase o = record { retired_settled = o.retired_settled; settled_all = o.settled_all; sealed_all = o.settled_all; sealing = λ e. omega arith }
-
--- a snapshot beside commits is under way, whatever their phase
-pub beside_is_busy : (phase : Phase) (beside : Bool) → beside ≡ true → (is_idle phase && not beside) ≡ false
-beside_is_busy phase beside is = ap (λ b. is_idle phase && not b) is ∙ nothing (is_idle phase)
-  where
-    nothing : (b : Bool) → (b && false) ≡ false
-    nothing true = refl
-    nothing false = refl

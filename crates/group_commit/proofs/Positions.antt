@@ -6,7 +6,7 @@ use Rattle.group_commit.specs.declared.mark.Mark.{Mark}
 use Rattle.group_commit.specs.declared.mark.Mark.TheVariants as marks
 use Rattle.group_commit.specs.Entries.{Entry, Kept, opened, with_mark}
 use Rattle.group_commit.specs.History.{entry_of}
-use Rattle.group_commit.specs.World.{Stage, Pump, Fault, StartSnapshot, StartBeside, RenewBeside, EndBeside, FaultBeside, Tell, Forget, Retire}
+use Rattle.group_commit.specs.World.{Stage, Pump, Fault, StartSnapshot, Tell, Forget, Retire}
 use Rattle.group_commit.specs.View.{View, length_of, book_of}
 use Rattle.group_commit.specs.Ticket.{ticket_of, told_for}
 use Rattle.group_commit.specs.Positions.{HasEntry, StagedAtItsPosition, PositionsStay, ReceiptsAreOfTheirEntries, HasTold, ReceiptsAreTold}
@@ -47,10 +47,6 @@ positions_stay v (Stage session command) position entry h more = record {
 positions_stay v Pump position entry h more = record { kept = h.kept; not_retired = h.not_retired; stands = h.stands; is = h.is }
 positions_stay v Fault position entry h more = record { kept = h.kept; not_retired = h.not_retired; stands = h.stands; is = h.is }
 positions_stay v StartSnapshot position entry h more = record { kept = h.kept; not_retired = h.not_retired; stands = h.stands; is = h.is }
-positions_stay v StartBeside position entry h more = record { kept = h.kept; not_retired = h.not_retired; stands = h.stands; is = h.is }
-positions_stay v RenewBeside position entry h more = record { kept = h.kept; not_retired = h.not_retired; stands = h.stands; is = h.is }
-positions_stay v EndBeside position entry h more = record { kept = h.kept; not_retired = h.not_retired; stands = h.stands; is = h.is }
-positions_stay v FaultBeside position entry h more = record { kept = h.kept; not_retired = h.not_retired; stands = h.stands; is = h.is }
 positions_stay v (Tell told) position entry h more = marked_stays marks.Told v (told - v.retired) (v.told + 1) position entry h
 positions_stay v (Forget told) position entry h more = marked_stays marks.Forgotten v (told - v.retired) v.told position entry h
 positions_stay v Retire position entry h more =

@@ -17,8 +17,7 @@ use Rattle.vault_store.specs.Phases.{Waiting, DeviceCall, NoCall, Write, Sync, N
 use Rattle.vault_store.specs.State.{StoreState, waiting_in, row_of, advanced, failed}
 use Rattle.vault_format.specs.Snapshot.{current_version}
 use Rattle.vault_store.specs.Seen.{StoreSeen, other, first_of, second_of, Keeps, IsLeftInside}
-use Rattle.vault_store.specs.Beside.{is_beside}
-use Rattle.vault_store.proofs.NewFiles.{bare_length}
+use Rattle.vault_store.proofs.Asides.{length-behind}
 use Rattle.vault_store.proofs.Busy.{idle_or_busy, snapshot_is_busy}
 use Rattle.group_commit.specs.Entries.{Kept}
 use Rattle.group_commit.specs.History.{effects}
@@ -147,35 +146,33 @@ row_still v e = ⊎_elim (λ idle. (vault_idle v idle).still e) (λ busy. absurd
 -- a vault whose store made the step, with the durable and the sealed length of its row
 module _ {D : Type 0} (disk : D → Disk) (seen : VaultSeen D) (book : Vault) (k : IsSoundVault disk seen book) (store : StoreSeen D) where
   abbrev after_step : ℕ → ℕ → Bool → VaultSeen D
-  after_step settled sealed broken = record { view = record seen.view { settled = settled; sealed = sealed; phase = store.phase; beside = is_beside store.beside; broken = broken }; life = seen.life; store = store }
+  after_step settled sealed broken = record { view = record seen.view { settled = settled; sealed = sealed; phase = store.phase; broken = broken }; life = seen.life; store = store }
 
-  pub pumped_view : (settled sealed : ℕ) → store.beside ≡ seen.store.beside → seen.view.broken ≡ false → Keeps disk store (advanced (state_of seen.view))
+  pub pumped_view : (settled sealed : ℕ) → seen.view.broken ≡ false → Keeps disk store (advanced (state_of seen.view))
       → settled ≡ (view_acted snapshot_length seen.view Pump).settled → sealed ≡ (view_acted snapshot_length seen.view Pump).sealed
       → (after_step settled sealed seen.view.broken).view ≡ view_acted snapshot_length seen.view Pump
-  pumped_view settled sealed same whole keeps d e =
-      let b = ap is_beside same ∙ sym k.beside in
+  pumped_view settled sealed whole keeps d e =
       let p = keeps.phase ∙ ap (λ (s : StoreState). s.phase) (sym (state_pumped seen.view k.sound whole)) in
-      λ i. record seen.view { settled = d i; sealed = e i; phase = p i; beside = b i }
+      λ i. record seen.view { settled = d i; sealed = e i; phase = p i }
 
-  pub pumped_kept : (settled sealed : ℕ) → store.beside ≡ seen.store.beside → seen.view.broken ≡ false → Keeps disk store (advanced (state_of seen.view))
+  pub pumped_kept : (settled sealed : ℕ) → seen.view.broken ≡ false → Keeps disk store (advanced (state_of seen.view))
       → settled ≡ (view_acted snapshot_length seen.view Pump).settled → sealed ≡ (view_acted snapshot_length seen.view Pump).sealed
       → IsSoundVault disk (after_step settled sealed seen.view.broken) book
-  pumped_kept settled sealed same whole keeps d e =
-      subst (λ (v : View). IsSoundVault disk (record { view = v; life = seen.life; store = store }) book) (sym (pumped_view settled sealed same whole keeps d e))
-      (record { book_is = k.book_is; sound = pumped_sound seen.view whole k.sound; fits = k.fits; stands = subst (Keeps disk store) (sym (state_pumped seen.view k.sound whole)) keeps; beside = k.beside ∙ ap is_beside (sym same) })
+  pumped_kept settled sealed whole keeps d e =
+      subst (λ (v : View). IsSoundVault disk (record { view = v; life = seen.life; store = store }) book) (sym (pumped_view settled sealed whole keeps d e))
+      (record { book_is = k.book_is; sound = pumped_sound seen.view whole k.sound; fits = k.fits; stands = subst (Keeps disk store) (sym (state_pumped seen.view k.sound whole)) keeps })
 
-  pub failed_view : (sealed : ℕ) → store.beside ≡ seen.store.beside → Keeps disk store (failed (row_of (state_of seen.view)) (state_of seen.view)) → sealed ≡ (view_acted snapshot_length seen.view Fault).sealed
+  pub failed_view : (sealed : ℕ) → Keeps disk store (failed (row_of (state_of seen.view)) (state_of seen.view)) → sealed ≡ (view_acted snapshot_length seen.view Fault).sealed
       → (after_step seen.view.settled sealed true).view ≡ view_acted snapshot_length seen.view Fault
-  failed_view sealed same keeps e =
-      let b = ap is_beside same ∙ sym k.beside in
+  failed_view sealed keeps e =
       let p = keeps.phase ∙ ap (λ (s : StoreState). s.phase) (sym (state_failed seen.view)) in
-      λ i. record seen.view { sealed = e i; phase = p i; beside = b i; broken = true }
+      λ i. record seen.view { sealed = e i; phase = p i; broken = true }
 
-  pub failed_kept : (sealed : ℕ) → store.beside ≡ seen.store.beside → (vault_row seen.view).call ≢ NoCall → Keeps disk store (failed (row_of (state_of seen.view)) (state_of seen.view)) → sealed ≡ (view_acted snapshot_length seen.view Fault).sealed
+  pub failed_kept : (sealed : ℕ) → (vault_row seen.view).call ≢ NoCall → Keeps disk store (failed (row_of (state_of seen.view)) (state_of seen.view)) → sealed ≡ (view_acted snapshot_length seen.view Fault).sealed
       → IsSoundVault disk (after_step seen.view.settled sealed true) book
-  failed_kept sealed same called keeps e =
-      subst (λ (v : View). IsSoundVault disk (record { view = v; life = seen.life; store = store }) book) (sym (failed_view sealed same keeps e))
-      (record { book_is = k.book_is; sound = failed_sound seen.view called k.sound; fits = k.fits; stands = subst (Keeps disk store) (sym (state_failed seen.view)) keeps; beside = k.beside ∙ ap is_beside (sym same) })
+  failed_kept sealed called keeps e =
+      subst (λ (v : View). IsSoundVault disk (record { view = v; life = seen.life; store = store }) book) (sym (failed_view sealed keeps e))
+      (record { book_is = k.book_is; sound = failed_sound seen.view called k.sound; fits = k.fits; stands = subst (Keeps disk store) (sym (state_failed seen.view)) keeps })
 
 after_same : {A : Type 0} (call : DeviceCall) (x : A) → after_fault call x x ≡ x
 after_same NoCall x = refl
@@ -238,9 +235,10 @@ module _ {D : Type 0} (disk : D → Disk) (seen : VaultSeen D) (book : Vault) (k
       ∙ ap (λ b. cond (is_idle seen.view.phase && not b) [] seen.store.buffer) k.stands.broken
 
   -- what a snapshot writes ends with its tail gate
-  rest_is : seen.store.copied ≡ 0 → is_snapshot seen.view.phase ≡ true → length seen.store.rest ≡ behind_snapshot seen.view
-  rest_is none under =
-      bare_length disk seen.store (state_of seen.view) k.stands under none
+  rest_is : is_snapshot seen.view.phase ≡ true → length seen.store.rest ≡ behind_snapshot seen.view
+  rest_is under =
+      ap length (k.stands.renewal under).bytes
+      ∙ length-behind (seen.store.generation + 1) (state_of seen.view).sealed
       ∙ ap (λ b. header + snapshot_length (durable (view_at seen.view (cond b seen.view.settled seen.view.sealed)))) (snapshot_is_busy seen.view.phase under)
 
   -- the store's answer and the vault's speak of the same numbers
@@ -254,18 +252,13 @@ module _ {D : Type 0} (disk : D → Disk) (seen : VaultSeen D) (book : Vault) (k
     which = made.numbers.which ∙ ap (λ b. cond b (other seen.store.which) seen.store.which) alike.renewed;
     version = made.numbers.version ∙ ap (λ b. cond b current_version seen.store.version) alike.renewed;
     generation = made.numbers.generation ∙ ap (λ b. cond b (seen.store.generation + 1) seen.store.generation) alike.renewed;
-    tail = λ none.
+    tail =
         made.numbers.tail
         ∙ chosen (store_renews seen.store result) (renews seen.view answer) (length seen.store.rest) (seen.store.tail + store_gained seen.store result) (behind_snapshot seen.view) (seen.store.tail + gained seen.view answer)
-        alike.renewed (λ e. rest_is none (alike.under e)) (λ e. ap (λ n. seen.store.tail + n) (alike.gains e));
-    tail_any =
-        made.numbers.tail
-        ∙ chosen (store_renews seen.store result) (renews seen.view answer) (length seen.store.rest) (seen.store.tail + store_gained seen.store result) (length seen.store.rest) (seen.store.tail + gained seen.view answer)
-        alike.renewed (λ e. refl) (λ e. ap (λ n. seen.store.tail + n) (alike.gains e));
-    copied = made.numbers.copied ∙ ap (λ b. cond b 0 seen.store.copied) alike.renewed;
+        alike.renewed (λ e. rest_is (alike.under e)) (λ e. ap (λ n. seen.store.tail + n) (alike.gains e));
     journal_length =
         made.numbers.journal_length
-        ∙ chosen (store_renews seen.store result) (renews seen.view answer) seen.store.copied (seen.store.journal_length + store_gained seen.store result) seen.store.copied (seen.store.journal_length + gained seen.view answer)
+        ∙ chosen (store_renews seen.store result) (renews seen.view answer) 0 (seen.store.journal_length + store_gained seen.store result) 0 (seen.store.journal_length + gained seen.view answer)
         alike.renewed (λ e. refl) (λ e. ap (λ n. seen.store.journal_length + n) (alike.gains e));
     buffer = buffer_is result made;
   }
@@ -280,7 +273,7 @@ module _ {D : Type 0} (disk : D → Disk) (seen : VaultSeen D) (book : Vault) (k
   ok_pump settled sealed answer other made d e a still alike = record {
     broken = λ b. clash whole b;
     answer = λ _. a;
-    pumped = λ _. pumped_view disk seen book k store settled sealed made.numbers.beside whole made.step.1 d e;
+    pumped = λ _. pumped_view disk seen book k store settled sealed whole made.step.1 d e;
     failed = tt;
     life = refl;
     still = still;
@@ -322,7 +315,7 @@ module _ {D : Type 0} (disk : D → Disk) (seen : VaultSeen D) (book : Vault) (k
   pub settled_all_kept : Made (Ok answers.Idle) → seen.view.settled ≢ length_of seen.view → IsSoundVault disk (after_pump (length_of seen.view) seen.view.sealed) book
   settled_all_kept made some =
       let r = row_settles_all seen.view k.sound (answered answers.Idle made) some in
-      pumped_kept disk seen book k store (length_of seen.view) seen.view.sealed made.numbers.beside whole made.step.1 (row_is_settled (ends NoCall All) r) (row_is_sealed (ends NoCall All) r)
+      pumped_kept disk seen book k store (length_of seen.view) seen.view.sealed whole made.step.1 (row_is_settled (ends NoCall All) r) (row_is_sealed (ends NoCall All) r)
 
   frame_is : is_idle seen.view.phase ≡ false → is_snapshot seen.view.phase ≡ false → frame_extra + seen.store.sealed ≡ gained seen.view (Ok answers.Settled)
   frame_is busy commit =
@@ -347,7 +340,7 @@ module _ {D : Type 0} (disk : D → Disk) (seen : VaultSeen D) (book : Vault) (k
   pub settled_sealed_kept : Made (Ok answers.Settled) → IsSoundVault disk (after_pump seen.view.sealed seen.view.sealed) book
   settled_sealed_kept made =
       let r = row_settles seen.view (answered answers.Settled made) in
-      pumped_kept disk seen book k store seen.view.sealed seen.view.sealed made.numbers.beside whole made.step.1 (last_settled r) (unsealed r.2)
+      pumped_kept disk seen book k store seen.view.sealed seen.view.sealed whole made.step.1 (last_settled r) (unsealed r.2)
 
   abbrev sealed_next : ℕ
   sealed_next = cond (is_idle seen.view.phase) (length_of seen.view) seen.view.sealed
@@ -387,7 +380,7 @@ module _ {D : Type 0} (disk : D → Disk) (seen : VaultSeen D) (book : Vault) (k
   pub moved_kept : (sealed : ℕ) → Made (Ok answers.Moved) → sealed ≡ sealed_next → IsSoundVault disk (after_pump seen.view.settled sealed) book
   moved_kept sealed made is =
       let m = has_moved (answered answers.Moved made) in
-      pumped_kept disk seen book k store seen.view.settled sealed made.numbers.beside whole made.step.1 m.settled (is ∙ m.sealed)
+      pumped_kept disk seen book k store seen.view.settled sealed whole made.step.1 m.settled (is ∙ m.sealed)
 
   failed_sealed : (row_of (state_of seen.view)).call ≢ NoCall → (sealed_next ≡ (view_acted snapshot_length seen.view Fault).sealed) × ((vault_row seen.view).call ≢ NoCall)
   failed_sealed called = ⊎_elim
@@ -410,7 +403,7 @@ module _ {D : Type 0} (disk : D → Disk) (seen : VaultSeen D) (book : Vault) (k
         broken = λ b. clash whole b;
         answer = λ _. tt;
         pumped = λ _. tt;
-        failed = ((whole, f.1), failed_view disk seen book k store sealed made.numbers.beside made.step.2 (is ∙ f.0));
+        failed = ((whole, f.1), failed_view disk seen book k store sealed made.step.2 (is ∙ f.0));
         life = refl;
         still = λ e. absurd (f.1 e);
         calls = made.calls;
@@ -419,7 +412,7 @@ module _ {D : Type 0} (disk : D → Disk) (seen : VaultSeen D) (book : Vault) (k
       }
 
   pub fault_kept : (sealed : ℕ) (why : DeviceFault) → Made (Err why) → sealed ≡ sealed_next → IsSoundVault disk (after_step disk seen book k store seen.view.settled sealed true) book
-  fault_kept sealed why made is = let f = failed_sealed made.step.1 in failed_kept disk seen book k store sealed made.numbers.beside f.1 made.step.2 (is ∙ f.0)
+  fault_kept sealed why made is = let f = failed_sealed made.step.1 in failed_kept disk seen book k store sealed f.1 made.step.2 (is ∙ f.0)
 
   -- a store whose vault isn't broken doesn't say that it is
   pub not_broken : Made (Ok answers.Broken) → ⊥

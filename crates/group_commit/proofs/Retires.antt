@@ -93,7 +93,6 @@ module _ {D : Type 0} (disk : D → Disk) (seen : VaultSeen D) (book : Vault) (k
         sound = retired_sound seen.view x rest here.sound settled;
         fits = let f : seen.view.retired + suc (length rest) < 2 ^ 64 = here.fits in omega arith;
         stands = subst (Keeps disk seen.store) (sym (state_retired seen.view x rest here.sound settled)) here.stands;
-        beside = here.beside;
       })
 
   retired_view : (retired seen base rest).view ≡ view_acted snapshot_length seen.view Retire

@@ -42,9 +42,9 @@ rows = record {
   torn_gate_open = record { is_run = refl & refl & refl & refl & refl & refl & (of_two, refl) & refl & refl & refl & refl & tt & refl & refl & tt; calls = refl; answers = refl; replies = refl };
   told_stands = refl;
   hold_goes = record { is_run = refl & refl & refl & refl & refl & refl & refl & refl & refl & tt & refl & refl & refl & tt; calls = refl; answers = refl; replies = refl };
-  snapshot_torn_closed = record { is_run = refl & refl & refl & refl & refl & refl & refl & (refl, refl, refl) & refl & refl & refl & refl & refl & tt & refl & refl & tt; calls = refl; answers = refl; replies = refl };
-  snapshot_torn_open = record { is_run = refl & refl & refl & refl & refl & refl & refl & (refl, refl, refl) & refl & refl & refl & refl & refl & tt & refl & refl & tt; calls = refl; answers = refl; replies = refl };
-  snapshot_settled = record { is_run = refl & refl & refl & refl & refl & refl & refl & (refl, refl, refl) & refl & refl & refl & refl & refl & refl & tt & refl & refl & tt; calls = refl; answers = refl; replies = refl };
+  snapshot_torn_closed = record { is_run = refl & refl & refl & refl & refl & refl & refl & (refl, refl) & refl & refl & refl & refl & refl & tt & refl & refl & tt; calls = refl; answers = refl; replies = refl };
+  snapshot_torn_open = record { is_run = refl & refl & refl & refl & refl & refl & refl & (refl, refl) & refl & refl & refl & refl & refl & tt & refl & refl & tt; calls = refl; answers = refl; replies = refl };
+  snapshot_settled = record { is_run = refl & refl & refl & refl & refl & refl & refl & (refl, refl) & refl & refl & refl & refl & refl & refl & tt & refl & refl & tt; calls = refl; answers = refl; replies = refl };
   failed_write = record {
     no_stage = broken;
     no_pump = broken;

@@ -10,15 +10,14 @@ use Rattle.group_commit.specs.declared.mark.Mark.{Mark}
 use Rattle.group_commit.specs.declared.mark.Mark.TheVariants.{Open, Told, Forgotten}
 use Rattle.group_commit.specs.Entries.{Kept, opened, mark_at, with_mark}
 use Rattle.group_commit.specs.History.{Member, Given, Restart, replay, IsLegal, entry_of, members}
-use Rattle.group_commit.specs.World.{World, world_of, new_world, history, history_to, vault_of, Act, Stage, Pump, Fault, StartSnapshot, StartBeside, RenewBeside, EndBeside, FaultBeside, Tell, Forget, Retire, Allows, acted, GateLeft, kept_by, crashed}
+use Rattle.group_commit.specs.World.{World, world_of, new_world, history, history_to, vault_of, Act, Stage, Pump, Fault, StartSnapshot, Tell, Forget, Retire, Allows, acted, GateLeft, kept_by, crashed}
 use Rattle.group_commit.specs.Runs.{Event, Within, Crash, AllowsEvent, happened, run, IsRun}
 use Rattle.group_commit.proofs.Facts.{well_formed_stays}
 use Rattle.group_commit.proofs.Folds.{replay-append, legal_append, legal_front, members-append, members_rest}
 use Rattle.group_commit.proofs.Marks.{members-with_mark, length-with_mark, mark_same, mark_other, mark_below, mark_front, told_before}
-use Rattle.std.specs.Prelude.{not, ◌&&◌}
 use Rattle.vault_store.specs.Phases.{is_idle}
 use Rattle.group_commit.specs.Phases.{InOrder}
-use Rattle.group_commit.proofs.Order.{beside_is_busy, fault_is_busy, order_row, order_fault, order_start, order_end, more_settled}
+use Rattle.group_commit.proofs.Order.{fault_is_busy, order_row, order_fault, order_start, more_settled}
 
 -- acknowledged entries are durable, and retired ones closed
 pub record MarksFit (life : List Kept) (retired settled : ℕ) : Type 0 where
@@ -31,7 +30,7 @@ pub record IsSound (w : World) : Type 0 where
   pub order : InOrder (length w.life) w.retired w.settled w.sealed w.phase
   pub marks : MarksFit w.life w.retired w.settled
   pub starts : CountsBelow 1 (replay w.first w.earlier)
-  pub busy : w.broken ≡ true → (is_idle w.phase && not w.beside) ≡ false
+  pub busy : w.broken ≡ true → is_idle w.phase ≡ false
 
 -- a well-formed vault in which no command was counted
 pub first_sound : (vault : Vault) → IsVault vault → CountsBelow 1 vault → IsSound (world_of vault)
@@ -106,12 +105,8 @@ act_sound snapshot w Pump a s = record {
   starts = s.starts;
   busy = λ e. absurd (cc);
 }
-act_sound snapshot w Fault a s = record { begins = s.begins; legal = s.legal; order = order_fault (length w.life) w.retired w.settled w.sealed w.phase _ _ s.order; marks = s.marks; starts = s.starts; busy = λ e. ap (λ b. b && not w.beside) (fault_is_busy w.phase _ _ a.1) }
+act_sound snapshot w Fault a s = record { begins = s.begins; legal = s.legal; order = order_fault (length w.life) w.retired w.settled w.sealed w.phase _ _ s.order; marks = s.marks; starts = s.starts; busy = λ e. fault_is_busy w.phase _ _ a.1 }
 act_sound snapshot w StartSnapshot a s = record { begins = s.begins; legal = s.legal; order = order_start (length w.life) w.retired w.settled w.sealed w.phase s.order; marks = s.marks; starts = s.starts; busy = λ e. refl }
-act_sound snapshot w StartBeside a s = record { begins = s.begins; legal = s.legal; order = s.order; marks = s.marks; starts = s.starts; busy = λ e. absurd (cc) }
-act_sound snapshot w RenewBeside a s = s
-act_sound snapshot w EndBeside a s = record { begins = s.begins; legal = s.legal; order = order_end (length w.life) w.retired w.settled w.sealed w.phase s.order; marks = s.marks; starts = s.starts; busy = λ e. absurd (cc) }
-act_sound snapshot w FaultBeside a s = record { begins = s.begins; legal = s.legal; order = s.order; marks = s.marks; starts = s.starts; busy = λ e. beside_is_busy w.phase w.beside a.1 }
 act_sound snapshot w (Tell position) a s = marked Told w position (λ e. cc) (λ e. a.0) a.1 s
 act_sound snapshot w (Forget position) a s = marked Forgotten w position (λ e. cc) (λ e. absurd (cc)) a s
 act_sound snapshot w Retire a s = record {
@@ -155,10 +150,6 @@ first_kept snapshot w (Within (Stage session command)) = refl
 first_kept snapshot w (Within Pump) = refl
 first_kept snapshot w (Within Fault) = refl
 first_kept snapshot w (Within StartSnapshot) = refl
-first_kept snapshot w (Within StartBeside) = refl
-first_kept snapshot w (Within RenewBeside) = refl
-first_kept snapshot w (Within EndBeside) = refl
-first_kept snapshot w (Within FaultBeside) = refl
 first_kept snapshot w (Within (Tell position)) = refl
 first_kept snapshot w (Within (Forget position)) = refl
 first_kept snapshot w (Within Retire) = refl

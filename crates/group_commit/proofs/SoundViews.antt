@@ -8,20 +8,19 @@ use Rattle.vault_state.specs.declared.session.Session.{Session}
 use Rattle.vault_state.specs.Vault.{Vault, IsVault, CountsBelow}
 use Rattle.vault_model.specs.After.{IsDurable}
 use Rattle.vault_store.specs.declared.phase.Phase.{Phase}
-use Rattle.std.specs.Prelude.{not, ◌&&◌}
-use Rattle.vault_store.specs.declared.phase.Phase.TheVariants.{Start, Filled}
+use Rattle.vault_store.specs.declared.phase.Phase.TheVariants.{Start}
 use Rattle.vault_store.specs.Phases.{NoCall, is_idle}
 use Rattle.group_commit.specs.declared.mark.Mark.{Mark}
 use Rattle.group_commit.specs.declared.mark.Mark.TheVariants.{Open, Told, Forgotten}
 use Rattle.group_commit.specs.Entries.{opened, mark_at, with_mark, told_in}
 use Rattle.group_commit.specs.History.{replay, IsLegal, entry_of, members}
 use Rattle.group_commit.specs.Phases.{InOrder}
-use Rattle.group_commit.specs.World.{Pump, Fault, StartSnapshot, StartBeside, EndBeside, FaultBeside}
+use Rattle.group_commit.specs.World.{Pump, Fault, StartSnapshot}
 use Rattle.group_commit.specs.View.{View, length_of, book_of, opened_view, view_row, view_acted}
 use Rattle.group_commit.specs.Seen.{snapshot_length, most_kept, IsSoundView}
 use Rattle.group_commit.proofs.Folds.{legal_append, members-append}
 use Rattle.group_commit.proofs.Marks.{members-with_mark, length-with_mark, mark_same, mark_other, mark_below, told_before, told_open, told_one_more, told_same, told_below_length}
-use Rattle.group_commit.proofs.Order.{beside_is_busy, fault_is_busy, order_row, order_fault, order_start, order_end, more_settled}
+use Rattle.group_commit.proofs.Order.{fault_is_busy, order_row, order_fault, order_start, more_settled}
 use Rattle.group_commit.proofs.Sound.{some_mark}
 use Rattle.group_commit.proofs.Counts.{weaker, counts_after}
 use Rattle.group_commit.proofs.States.{staged}
@@ -60,9 +59,9 @@ staged_sound v session command room s =
     }
 
 -- the numbers and the phase of a step: no fewer entries are durable, and all stays in order
-steps_sound : (v : View) (settled sealed : ℕ) (phase : Phase) (beside broken : Bool) → InOrder (length_of v) v.retired settled sealed phase → v.settled ≤ settled
-    → (broken ≡ true → (is_idle phase && not beside) ≡ false) → IsSoundView v → IsSoundView (record v { settled = settled; sealed = sealed; phase = phase; beside = beside; broken = broken })
-steps_sound v settled sealed phase beside broken order more busy s = record {
+steps_sound : (v : View) (settled sealed : ℕ) (phase : Phase) (broken : Bool) → InOrder (length_of v) v.retired settled sealed phase → v.settled ≤ settled
+    → (broken ≡ true → is_idle phase ≡ false) → IsSoundView v → IsSoundView (record v { settled = settled; sealed = sealed; phase = phase; broken = broken })
+steps_sound v settled sealed phase broken order more busy s = record {
   well_formed = s.well_formed;
   legal = s.legal;
   order = order;
@@ -78,27 +77,17 @@ steps_sound v settled sealed phase beside broken order more busy s = record {
 pub pumped_sound : (v : View) → v.broken ≡ false → IsSoundView v → IsSoundView (view_acted snapshot_length v Pump)
 pumped_sound v whole s =
     let new = view_acted snapshot_length v Pump in
-    steps_sound v new.settled new.sealed new.phase v.beside v.broken (order_row (length_of v) v.retired v.settled v.sealed v.phase _ _ s.order) (more_settled (length_of v) v.retired v.settled v.sealed v.phase _ _ s.order) (λ e. let clash : false ≡ true = sym whole ∙ e in absurd (cc)) s
+    steps_sound v new.settled new.sealed new.phase v.broken (order_row (length_of v) v.retired v.settled v.sealed v.phase _ _ s.order) (more_settled (length_of v) v.retired v.settled v.sealed v.phase _ _ s.order) (λ e. let clash : false ≡ true = sym whole ∙ e in absurd (cc)) s
 
 -- a pump that failed
 pub failed_sound : (v : View) → (view_row snapshot_length v).call ≢ NoCall → IsSoundView v → IsSoundView (view_acted snapshot_length v Fault)
 failed_sound v called s =
     let new = view_acted snapshot_length v Fault in
-    steps_sound v v.settled new.sealed new.phase v.beside true (order_fault (length_of v) v.retired v.settled v.sealed v.phase _ _ s.order) (omega arith) (λ e. ap (λ b. b && not v.beside) (fault_is_busy v.phase _ _ called)) s
+    steps_sound v v.settled new.sealed new.phase true (order_fault (length_of v) v.retired v.settled v.sealed v.phase _ _ s.order) (omega arith) (λ e. fault_is_busy v.phase _ _ called) s
 
 -- the start of a snapshot
 pub started_sound : (v : View) → IsSoundView v → IsSoundView (view_acted snapshot_length v StartSnapshot)
-started_sound v s = steps_sound v v.settled (length_of v) Start v.beside v.broken (order_start (length_of v) v.retired v.settled v.sealed v.phase s.order) (omega arith) (λ e. refl) s
-
--- a snapshot beside commits
-pub beside_sound : (v : View) → v.broken ≡ false → IsSoundView v → IsSoundView (view_acted snapshot_length v StartBeside)
-beside_sound v whole s = steps_sound v v.settled v.sealed v.phase true v.broken s.order (omega arith) (λ e. let clash : false ≡ true = sym whole ∙ e in absurd (cc)) s
-
-pub ended_sound : (v : View) → v.broken ≡ false → IsSoundView v → IsSoundView (view_acted snapshot_length v EndBeside)
-ended_sound v whole s = steps_sound v v.settled v.settled Filled false v.broken (order_end (length_of v) v.retired v.settled v.sealed v.phase s.order) (omega arith) (λ e. refl) s
-
-pub broken_sound : (v : View) → v.beside ≡ true → IsSoundView v → IsSoundView (view_acted snapshot_length v FaultBeside)
-broken_sound v is s = steps_sound v v.settled v.sealed v.phase v.beside true s.order (omega arith) (λ e. beside_is_busy v.phase v.beside is) s
+started_sound v s = steps_sound v v.settled (length_of v) Start v.broken (order_start (length_of v) v.retired v.settled v.sealed v.phase s.order) (omega arith) (λ e. refl) s
 
 -- an entry that is closed
 marked_sound : (m : Mark) (told : ℕ) (v : View) (place : ℕ) → m ≢ Open → (m ≡ Told → v.retired + place < v.settled) → place < length v.kept

@@ -6,7 +6,6 @@ use Rattle.vault_state.specs.Vault.{Vault, CountsBelow, durable}
 use Rattle.vault_model.specs.Step.{step}
 use Rattle.vault_model.specs.After.{after}
 use Rattle.vault_device.specs.Disk.{Disk}
-use Rattle.vault_store.specs.Beside.{is_beside}
 use Rattle.vault_store.specs.State.{StoreState, with_effect}
 use Rattle.vault_store.specs.Seen.{StoreSeen, Keeps}
 use Rattle.group_commit.specs.Entries.{Kept, opened}
@@ -48,26 +47,20 @@ module _ {D : Type 0} (disk : D → Disk) (seen : VaultSeen D) (book : Vault) (s
   same_phase None store e = ap (λ (s : StoreSeen D). s.phase) e
   same_phase (Some effect) store e = ap (λ (s : StoreSeen D). s.phase) e
 
-  same_beside : (effect : Option Effect) (store : StoreSeen D) → store ≡ noted effect seen.store → is_beside store.beside ≡ seen.view.beside
-  same_beside None store e = ap (λ (s : StoreSeen D). is_beside s.beside) e ∙ sym k.beside
-  same_beside (Some effect) store e = ap (λ (s : StoreSeen D). is_beside s.beside) e ∙ sym k.beside
-
   pub stage_kept : (effect : Option Effect) (store : StoreSeen D) (before next : Vault) (reply : Reply) (entry : Kept) (kept : List Kept) → seen.store.phase ≡ seen.view.phase → length seen.view.kept < most_kept → length_of seen.view < 2 ^ 64 - 1
       → effect ≡ (step book session command).effect → store ≡ noted effect seen.store → IfSome effect (Notes disk seen.store store) → before ≡ book → reply ≡ (step book session command).reply
       → entry ≡ opened (record { session = session; number = number_of before session; command = command; reply = reply }) → kept ≡ seen.view.kept ++ entry ∷ [] → next ≡ (step book session command).vault
-      → IsSoundVault disk (record { view = record seen.view { kept = kept; phase = store.phase; beside = is_beside store.beside }; life = seen.life; store = store }) next
+      → IsSoundVault disk (record { view = record seen.view { kept = kept; phase = store.phase }; life = seen.life; store = store }) next
   stage_kept effect store before next reply entry kept phase room last e same notes b r is more n =
       let here : before ≡ book_of seen.view = b ∙ k.book_is in
       let told : reply ≡ (step (book_of seen.view) session command).reply = r ∙ ap (λ x. (step x session command).reply) k.book_is in
       let given : entry ≡ opened (entry_of (book_of seen.view) session command) = is ∙ (λ i. opened (record { session = session; number = number_of (here i) session; command = command; reply = told i })) in
       let list = more ∙ ap (λ x. seen.view.kept ++ x ∷ []) given in
       let stays = same_phase effect store same ∙ phase in
-      let beside = same_beside effect store same in
-      subst (λ (v : View). IsSoundVault disk (record { view = v; life = seen.life; store = store }) next) (λ i. record seen.view { kept = (sym list) i; phase = (sym stays) i; beside = (sym beside) i })
+      subst (λ (v : View). IsSoundVault disk (record { view = v; life = seen.life; store = store }) next) (λ i. record seen.view { kept = (sym list) i; phase = (sym stays) i })
       (record {
         book_is = n ∙ ap (λ x. (step x session command).vault) k.book_is ∙ sym (book_staged seen.view session command);
         sound = staged_sound seen.view session command room k.sound;
         fits = staged_fits seen.view.retired seen.view.kept (opened (entry_of (book_of seen.view) session command)) last;
         stands = stands effect store (e ∙ ap (λ x. (step x session command).effect) k.book_is) same notes;
-        beside = sym beside;
       })

@@ -4,10 +4,6 @@ use Rattle.vault_state.specs.Vault.{Vault, IsVault, durable}
 use Rattle.vault_device.specs.Disk.{Disk}
 use Rattle.vault_format.specs.Snapshot.{HasSnapshot}
 use Rattle.vault_store.specs.Laws.{NotedIsSpelled}
-use Rattle.std.specs.Prelude.{not, ◌&&◌}
-use Rattle.vault_store.specs.declared.phase.Renewal.{Renewal}
-use Rattle.vault_store.specs.declared.phase.Renewal.TheVariants as renewals
-use Rattle.vault_store.specs.Beside.{is_beside}
 use Rattle.vault_store.specs.Phases.{is_idle}
 use Rattle.vault_store.specs.State.{started}
 use Rattle.vault_store.specs.Seen.{StoreSeen, Keeps, MayStart as MayStartStore, started_seen}
@@ -20,14 +16,6 @@ use Rattle.group_commit.specs.Pasts.{IsAnswered}
 use Rattle.group_commit.proofs.States.{state_started, book_well_formed}
 use Rattle.group_commit.proofs.SoundViews.{started_sound}
 
--- none is written beside commits
-pub nothing_is : (b : Renewal) → is_beside b ≡ false → b ≡ renewals.Nothing
-nothing_is renewals.Nothing e = refl
-nothing_is renewals.Start e = absurd (cc)
-nothing_is renewals.Closing e = absurd (cc)
-nothing_is (renewals.Writing left) e = absurd (cc)
-nothing_is renewals.Copying e = absurd (cc)
-
 module _ {D : Type 0} (disk : D → Disk) (seen : VaultSeen D) (book : Vault) (k : IsSoundVault disk seen book) where
   pub book_is_vault : IsVault book
   book_is_vault = subst IsVault (sym k.book_is) (book_well_formed seen.view k.sound)
@@ -37,24 +25,23 @@ module _ {D : Type 0} (disk : D → Disk) (seen : VaultSeen D) (book : Vault) (k
 
   -- the store may begin one where the vault may
   pub may_start : MayStartStore seen.store → MayStart seen
-  may_start may = record { idle = sym k.stands.phase ∙ may.idle; alone = k.beside ∙ ap is_beside may.alone; fits = may.fits }
+  may_start may = record { idle = sym k.stands.phase ∙ may.idle; fits = may.fits }
 
   pub store_may_start : MayStart seen → MayStartStore seen.store
-  store_may_start may = record { idle = k.stands.phase ∙ may.idle; alone = nothing_is seen.store.beside (sym k.beside ∙ may.alone); whole = k.stands.broken ∙ whole seen.view.broken refl; fits = may.fits }
+  store_may_start may = record { idle = k.stands.phase ∙ may.idle; whole = k.stands.broken ∙ whole seen.view.broken refl; fits = may.fits }
     where
       whole : (b : Bool) → seen.view.broken ≡ b → b ≡ false
-      whole true e = let clash : true ≡ false = sym (ap (λ p. is_idle p && not seen.view.beside) may.idle ∙ ap not may.alone) ∙ k.sound.busy e in absurd (cc)
+      whole true e = let clash : true ≡ false = sym (ap is_idle may.idle) ∙ k.sound.busy e in absurd (cc)
       whole false e = refl
 
   abbrev pub after_start : StoreSeen D → ℕ → VaultSeen D
-  after_start store sealed = record { view = record seen.view { sealed = sealed; phase = store.phase; beside = is_beside store.beside }; life = seen.life; store = store }
+  after_start store sealed = record { view = record seen.view { sealed = sealed; phase = store.phase }; life = seen.life; store = store }
 
   pub started_view : (store : StoreSeen D) (sealed : ℕ) → store ≡ started_seen seen.store (durable book) → sealed ≡ length_of seen.view
       → (after_start store sealed).view ≡ view_acted snapshot_length seen.view StartSnapshot
   started_view store sealed is n =
       let p = ap (λ (s : StoreSeen D). s.phase) is in
-      let b = ap (λ (s : StoreSeen D). is_beside s.beside) is ∙ sym k.beside in
-      λ i. record seen.view { sealed = n i; phase = p i; beside = b i }
+      λ i. record seen.view { sealed = n i; phase = p i }
 
   pub started_kept : (store : StoreSeen D) (sealed : ℕ) → store ≡ started_seen seen.store (durable book) → sealed ≡ length_of seen.view → MayStartStore seen.store
       → Keeps disk store (started (state_of seen.view)) → IsSoundVault disk (after_start store sealed) book
@@ -65,8 +52,7 @@ module _ {D : Type 0} (disk : D → Disk) (seen : VaultSeen D) (book : Vault) (k
         sound = started_sound seen.view k.sound;
         fits = k.fits;
         stands = subst (Keeps disk store) (sym (state_started seen.view (sym k.stands.phase ∙ may.idle))) keeps;
-        beside = k.beside ∙ ap (λ (s : StoreSeen D). is_beside s.beside) (sym is);
       })
 
   pub started_is_answered : (store : StoreSeen D) (sealed : ℕ) → store ≡ started_seen seen.store (durable book) → sealed ≡ length_of seen.view → MayStartStore seen.store → IsAnswered seen (after_start store sealed)
-  started_is_answered store sealed is n may = inr (StartSnapshot, record { allowed = (sym k.stands.broken ∙ may.whole, sym k.stands.phase ∙ may.idle, k.beside ∙ ap is_beside may.alone); made = started_view store sealed is n; life = refl })
+  started_is_answered store sealed is n may = inr (StartSnapshot, record { allowed = (sym k.stands.broken ∙ may.whole, sym k.stands.phase ∙ may.idle); made = started_view store sealed is n; life = refl })

@@ -15,7 +15,7 @@ use Rattle.vault_store.specs.State.{StoreState, with_effect, started, waiting_in
 use Rattle.group_commit.specs.Entries.{Kept, opened}
 use Rattle.group_commit.specs.History.{replay, outcome_of, entry_of, members, effects}
 use Rattle.group_commit.specs.Phases.{waiting, InOrder}
-use Rattle.group_commit.specs.World.{Stage, Pump, Fault, StartSnapshot, EndBeside}
+use Rattle.group_commit.specs.World.{Stage, Pump, Fault, StartSnapshot}
 use Rattle.group_commit.specs.View.{View, length_of, view_at, book_of, view_pumped, view_failed, view_acted}
 use Rattle.group_commit.specs.Seen.{snapshot_length, framed, effects_between, effects_from, state_of, IsSoundView}
 use Rattle.group_commit.proofs.Facts.{effect_is_the_durable_change}
@@ -230,15 +230,3 @@ started_in v = ap (λ (s : StoreState). record s { phase = Start }) (all_sealed 
 pub state_started : (v : View) → v.phase ≡ Idle → state_of (view_acted snapshot_length v StartSnapshot) ≡ started (state_of v)
 state_started v idle =
     subst (λ p. state_of (view_acted snapshot_length (record v { phase = p }) StartSnapshot) ≡ started (state_of (record v { phase = p }))) (sym idle) (started_in v)
-
--- A snapshot beside commits stands alone
-
-ended_in : (v : View) → state_of (view_acted snapshot_length (record v { phase = Idle }) EndBeside) ≡ record (state_of (record v { phase = Idle })) { phase = Filled }
-ended_in v =
-    let nothing : v.settled - v.settled ≡ 0 = omega arith in
-    let sealing = ap (λ n. effects (view_at v v.settled) (take n (drop (v.settled - v.retired) v.kept))) nothing in
-    λ i. record { settled = durable (view_at v v.settled); sealed = durable (view_at v v.settled); noted = durable (book_of v); sealing = sealing i; buffer = effects_from v v.settled; phase = Filled; broken = v.broken }
-
-pub state_ended : (v : View) → v.phase ≡ Idle → state_of (view_acted snapshot_length v EndBeside) ≡ record (state_of v) { phase = Filled }
-state_ended v idle =
-    subst (λ p. state_of (view_acted snapshot_length (record v { phase = p }) EndBeside) ≡ record (state_of (record v { phase = p })) { phase = Filled }) (sym idle) (ended_in v)

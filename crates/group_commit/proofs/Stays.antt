@@ -8,7 +8,7 @@ use Rattle.group_commit.specs.Entries.{Entry, Kept, opened}
 use Rattle.group_commit.specs.History.{Given, Restart, entry_of, members}
 use Rattle.vault_store.specs.Phases.{is_opening}
 use Rattle.vault_store.proofs.Busy.{opening_is_busy}
-use Rattle.group_commit.specs.World.{World, history, history_to, vault_of, Act, Stage, Pump, Fault, StartSnapshot, StartBeside, RenewBeside, EndBeside, FaultBeside, Tell, Forget, Retire, acted, GateLeft, StaysClosed, IsOpen, kept_by, crashed}
+use Rattle.group_commit.specs.World.{World, history, history_to, vault_of, Act, Stage, Pump, Fault, StartSnapshot, Tell, Forget, Retire, acted, GateLeft, StaysClosed, IsOpen, kept_by, crashed}
 use Rattle.group_commit.specs.Runs.{Event, Within, Crash, run, IsRun}
 use Rattle.group_commit.proofs.Folds.{members-append, members_rest}
 use Rattle.group_commit.proofs.Marks.{members-with_mark}
@@ -63,10 +63,6 @@ stays_act snapshot w (Stage session command) place entry s t = record {
 stays_act snapshot w Pump place entry s t = record { stands = t.stands; below = let more : w.settled ≤ (acted snapshot w Pump).settled = more_settled (length w.life) w.retired w.settled w.sealed w.phase _ _ s.order in let b : place < length w.earlier + w.settled = t.below in omega arith }
 stays_act snapshot w Fault place entry s t = record { stands = t.stands; below = t.below }
 stays_act snapshot w StartSnapshot place entry s t = record { stands = t.stands; below = t.below }
-stays_act snapshot w StartBeside place entry s t = record { stands = t.stands; below = t.below }
-stays_act snapshot w RenewBeside place entry s t = record { stands = t.stands; below = t.below }
-stays_act snapshot w EndBeside place entry s t = record { stands = t.stands; below = t.below }
-stays_act snapshot w FaultBeside place entry s t = record { stands = t.stands; below = t.below }
 stays_act snapshot w (Tell position) place entry s t = record { stands = subst (λ l. slice_get (w.earlier ++ l) place ≡ Some (Given entry)) (sym (members-with_mark Told w.life position)) t.stands; below = t.below }
 stays_act snapshot w (Forget position) place entry s t = record { stands = subst (λ l. slice_get (w.earlier ++ l) place ≡ Some (Given entry)) (sym (members-with_mark Forgotten w.life position)) t.stands; below = t.below }
 stays_act snapshot w Retire place entry s t = record { stands = t.stands; below = t.below }

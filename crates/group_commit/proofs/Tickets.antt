@@ -46,7 +46,6 @@ forget_here disk now book claim place at k = record {
   sound = forgotten_sound now.view place (is_open now claim place at) k.sound;
   fits = same_length_fits Forgotten now place k.fits;
   stands = subst (Keeps disk now.store) (sym (state_closed now.view (with_mark Forgotten now.view.kept place) now.view.told (members-with_mark Forgotten now.view.kept place))) k.stands;
-  beside = k.beside;
 }
 
 pub forget_kept : {D : Type 0} (disk : D → Disk) (seen now : VaultSeen D) (book : Vault) (claim : TicketSeen) (place : ℕ) (kept : List Kept) → seen ≡ now → IsOpenAt now claim place → kept ≡ with_mark Forgotten seen.view.kept place → IsSoundVault disk seen book
@@ -64,7 +63,6 @@ tell_here disk now book claim place at below k = record {
   sound = told_sound now.view place (let is = stands_at now claim place at in omega arith) (is_open now claim place at) k.sound;
   fits = same_length_fits IsTold now place k.fits;
   stands = subst (Keeps disk now.store) (sym (state_closed now.view (with_mark IsTold now.view.kept place) (now.view.told + 1) (members-with_mark IsTold now.view.kept place))) k.stands;
-  beside = k.beside;
 }
 
 pub tell_kept : {D : Type 0} (disk : D → Disk) (seen now : VaultSeen D) (book : Vault) (claim : TicketSeen) (place : ℕ) (kept : List Kept) → seen ≡ now → IsOpenAt now claim place → claim.position < seen.view.settled → kept ≡ with_mark IsTold seen.view.kept place → IsSoundVault disk seen book

@@ -12,7 +12,7 @@ use Rattle.group_commit.specs.Entries.{Kept, opened, mark_at, with_mark, told_in
 use Rattle.group_commit.specs.History.{replay, entry_of, members, effects}
 use Rattle.vault_store.specs.Phases.{Waiting, Nothing, NoEffects, Effects, Row, row, settled_by, after_fault, is_idle}
 use Rattle.group_commit.specs.Phases.{waiting}
-use Rattle.group_commit.specs.World.{World, history_to, vault_at, vault_of, row_of, Act, Stage, Pump, Fault, StartSnapshot, StartBeside, RenewBeside, EndBeside, FaultBeside, Tell, Forget, Retire, acted}
+use Rattle.group_commit.specs.World.{World, history_to, vault_at, vault_of, row_of, Act, Stage, Pump, Fault, StartSnapshot, Tell, Forget, Retire, acted}
 use Rattle.group_commit.specs.View.{view_of, length_of, view_at, book_of, view_row, after_first, view_acted}
 use Rattle.group_commit.specs.Laws.{ActsAsItsView}
 use Rattle.group_commit.proofs.Folds.{replay-append, members_part, members_rest, drop_part}
@@ -65,7 +65,7 @@ marks_alike : (m : Mark) (w : World) (position : ℕ) (told : ℕ) → w.retired
 marks_alike m w position told h e =
     let base = ap (λ ms. replay w.first (w.earlier ++ ms)) (take-with_mark m w.life w.retired position) in
     let kept = drop-with_mark m w.life w.retired position h in
-    λ i. record { base = base i; kept = kept i; settled = w.settled; sealed = w.sealed; retired = w.retired; told = e i; phase = w.phase; beside = w.beside; broken = w.broken }
+    λ i. record { base = base i; kept = kept i; settled = w.settled; sealed = w.sealed; retired = w.retired; told = e i; phase = w.phase; broken = w.broken }
 
 after_first_is : (base : Vault) (l : List Kept) → after_first base l ≡ replay base (members (take 1 l))
 after_first_is base [] = refl
@@ -88,7 +88,7 @@ stages snapshot w session command s =
     let base = ap (λ l. replay w.first (w.earlier ++ members l)) (take-append-le w.retired w.life more h) in
     let kept = drop-append-le w.retired w.life more h ∙ ap (λ v. drop w.retired w.life ++ opened (entry_of v session command) ∷ []) (sym (book_is w)) in
     let told = told_open w.life (entry_of (vault_of w) session command) in
-    λ i. record { base = base i; kept = kept i; settled = w.settled; sealed = w.sealed; retired = w.retired; told = told i; phase = w.phase; beside = w.beside; broken = w.broken }
+    λ i. record { base = base i; kept = kept i; settled = w.settled; sealed = w.sealed; retired = w.retired; told = told i; phase = w.phase; broken = w.broken }
 
 pumps : (snapshot : Vault → ℕ) (w : World) → IsSound w → view_of (acted snapshot w Pump) ≡ view_acted snapshot (view_of w) Pump
 pumps snapshot w s =
@@ -108,7 +108,7 @@ retires snapshot w =
     let rest = drop w.retired w.life in
     let base = sym (view_at_is w (w.retired + 1) (omega arith)) ∙ ap (λ k. replay v (members (take k rest))) (one_more w.retired) ∙ sym (after_first_is v rest) in
     let kept = sym (drop-drop 1 w.retired w.life) in
-    λ i. record { base = base i; kept = kept i; settled = w.settled; sealed = w.sealed; retired = w.retired + 1; told = told_in w.life; phase = w.phase; beside = w.beside; broken = w.broken }
+    λ i. record { base = base i; kept = kept i; settled = w.settled; sealed = w.sealed; retired = w.retired + 1; told = told_in w.life; phase = w.phase; broken = w.broken }
 
 -- each act is that act on the view
 pub acts_as : (snapshot : Vault → ℕ) (w : World) (act : Act) → IsSound w → ActsAsItsView snapshot w act
@@ -132,12 +132,8 @@ acts_as snapshot w StartSnapshot s = record {
   pumps = row_is snapshot w s;
   after = λ a.
       let n = sym (len_is w s) in
-      λ i. record { base = vault_at w w.retired; kept = drop w.retired w.life; settled = w.settled; sealed = n i; retired = w.retired; told = told_in w.life; phase = Start; beside = w.beside; broken = w.broken };
+      λ i. record { base = vault_at w w.retired; kept = drop w.retired w.life; settled = w.settled; sealed = n i; retired = w.retired; told = told_in w.life; phase = Start; broken = w.broken };
 }
-acts_as snapshot w StartBeside s = record { allowed = (λ a. a, λ a. a); pumps = row_is snapshot w s; after = λ a. refl }
-acts_as snapshot w RenewBeside s = record { allowed = (λ a. a, λ a. a); pumps = row_is snapshot w s; after = λ a. refl }
-acts_as snapshot w EndBeside s = record { allowed = (λ a. a, λ a. a); pumps = row_is snapshot w s; after = λ a. refl }
-acts_as snapshot w FaultBeside s = record { allowed = (λ a. a, λ a. a); pumps = row_is snapshot w s; after = λ a. refl }
 acts_as snapshot w (Tell position) s = record {
   allowed = (λ a. let h = open_is_kept w position s a.1 in (a.0, h, mark_drop w.life w.retired position h ∙ a.1), λ a. (a.0, sym (mark_drop w.life w.retired position a.1) ∙ a.2));
   pumps = row_is snapshot w s;

@@ -1,5 +1,5 @@
 -- When each answer comes. This project's own.
-use Rattle.std.specs.Prelude.{◌≡◌, ◌⊎◌, ℕ, ◌+◌, ◌-◌, ◌^◌, ◌<◌, ◌≤◌, Bool, ◌&&◌, not, true, false, if◌then◌else◌, [], ◌++◌, length, Option, None, Some, slice_get, Result, Ok, Err}
+use Rattle.std.specs.Prelude.{◌≡◌, ◌⊎◌, ℕ, ◌+◌, ◌-◌, ◌^◌, ◌<◌, ◌≤◌, Bool, ◌&&◌, not, true, false, if◌then◌else◌, [], ◌++◌, length, Option, None, Some, slice_get, Result, Ok}
 use Rattle.vault_model.specs.Said.{Effect}
 use Rattle.vault_state.specs.Vault.{durable}
 use Rattle.vault_model.specs.declared.replies.Outside.{Outside}
@@ -12,7 +12,7 @@ use Rattle.vault_format.specs.Files.{header, frame_extra}
 use Rattle.vault_store.specs.declared.phase.Phase.TheVariants.{Idle}
 use Rattle.vault_store.specs.Phases.{is_idle, is_snapshot}
 use Rattle.vault_format.specs.Snapshot.{current_version}
-use Rattle.vault_store.specs.Seen.{StoreSeen, other, has_room, last_tail}
+use Rattle.vault_store.specs.Seen.{StoreSeen, other, has_room}
 use Rattle.group_commit.specs.declared.answers.Redeemed.{Redeemed}
 use Rattle.group_commit.specs.declared.answers.Redeemed.TheVariants as redeemed
 use Rattle.group_commit.specs.declared.answers.Forgotten.{Forgotten}
@@ -20,9 +20,7 @@ use Rattle.group_commit.specs.declared.answers.Forgotten.TheVariants as forgotte
 use Rattle.group_commit.specs.declared.answers.Retired.{Retired}
 use Rattle.group_commit.specs.declared.answers.Retired.TheVariants as retired
 use Rattle.group_commit.specs.Entries.{Kept}
-use Rattle.vault_store.specs.declared.phase.Renewed.{Renewed}
-use Rattle.vault_store.specs.declared.phase.Renewed.TheVariants as renewed
-use Rattle.group_commit.specs.World.{RenewBeside, EndBeside, FaultBeside, Tell, Forget, Retire}
+use Rattle.group_commit.specs.World.{Tell, Forget, Retire}
 use Rattle.group_commit.specs.View.{View, length_of, view_at, ViewAllows, view_acted}
 use Rattle.group_commit.specs.Ticket.{TicketSeen, Told, told_for}
 use Rattle.group_commit.specs.Seen.{VaultSeen, snapshot_length, most_kept, effects_between}
@@ -53,7 +51,7 @@ abbrev pub gained : View → Result Pumped DeviceFault → ℕ
 gained v (Ok answers.Settled) = if is_idle v.phase then 0 else frame_extra + length (records_of (effects_between v v.settled v.sealed))
 gained v _ = 0
 
--- where the tail gate stands behind a snapshot of the sealed entries, and nothing else
+-- where the tail gate stands behind a snapshot of the sealed entries
 abbrev pub behind_snapshot : View → ℕ
 behind_snapshot v = header + snapshot_length (durable (view_at v v.sealed))
 
@@ -66,33 +64,19 @@ abbrev pub generation_after : View → Result Pumped DeviceFault → ℕ → ℕ
 generation_after v result generation = if renews v result then generation + 1 else generation
 
 -- The active file, its version and its numbers after a pump. The last pump of a commit moves the tail gate behind the frame. The last one
--- of a snapshot exchanges the files: the new active one has the current version, and its tail gate stands behind the snapshot and the frames
--- that were copied. The first one of a commit empties the buffer, also where its device call fails. No other pump changes them.
+-- of a snapshot exchanges the files: the new active one has the current version, and its tail gate stands behind the snapshot. The first
+-- one of a commit empties the buffer, also where its device call fails. No other pump changes them.
 pub record AreNumbers {D : Type 0} (old new : VaultSeen D) (result : Result Pumped DeviceFault) : Type 0 where
   pub which : new.store.which ≡ (if renews old.view result then other old.store.which else old.store.which)
   pub version : new.store.version ≡ (if renews old.view result then current_version else old.store.version)
   pub generation : new.store.generation ≡ generation_after old.view result old.store.generation
-  pub tail : old.store.copied ≡ 0 → new.store.tail ≡ tail_after old.view result old.store.tail
-  pub tail_any : new.store.tail ≡ (if renews old.view result then length old.store.rest else old.store.tail + gained old.view result)
-  pub journal_length : new.store.journal_length
-      ≡ (if renews old.view result then old.store.copied else old.store.journal_length + gained old.view result)
+  pub tail : new.store.tail ≡ tail_after old.view result old.store.tail
+  pub journal_length : new.store.journal_length ≡ (if renews old.view result then 0 else old.store.journal_length + gained old.view result)
   pub buffer : new.store.buffer ≡ (if is_idle old.view.phase && not old.view.broken then [] else old.store.buffer)
-  pub copied : new.store.copied ≡ (if renews old.view result then 0 else old.store.copied)
 
 -- whether a snapshot may be begun: nothing is under way, and there is a next generation
 pub record MayStart {D : Type 0} (seen : VaultSeen D) : Type 0 where
   pub idle : seen.view.phase ≡ Idle
-  pub alone : seen.view.beside ≡ false
-  pub fits : seen.store.generation + 1 < 2 ^ 64
-
--- Whether a snapshot may be begun beside commits: no snapshot is under way, no device call failed, all that was staged is in frames, a frame
--- may begin, and there is a next generation.
-pub record MayFreeze {D : Type 0} (seen : VaultSeen D) : Type 0 where
-  pub commit : is_snapshot seen.view.phase ≡ false
-  pub alone : seen.view.beside ≡ false
-  pub whole : seen.view.broken ≡ false
-  pub framed : seen.store.buffer ≡ []
-  pub low : seen.store.tail < last_tail
   pub fits : seen.store.generation + 1 < 2 ^ 64
 
 -- a ticket names an open entry of this life
@@ -131,14 +115,3 @@ abbrev pub IsRetired : {D : Type 0} → VaultSeen D → VaultSeen D → Retired 
 IsRetired old new retired.One =
     ViewAllows snapshot_length old.view Retire × (new ≡ record old { view = view_acted snapshot_length old.view Retire })
 IsRetired old new retired.Nothing = (new ≡ old) × (ViewAllows snapshot_length old.view Retire → ⊥)
-
--- What a step of a snapshot beside commits did: one that no view shows; the last one, after which the snapshot stands alone; one that failed;
--- or none, and nothing changed.
-abbrev pub IsRenewal : {D : Type 0} → VaultSeen D → VaultSeen D → Result Renewed DeviceFault → Type 0
-IsRenewal old new (Ok renewed.Nothing) = new ≡ old
-IsRenewal old new (Ok renewed.Moved) =
-    ViewAllows snapshot_length old.view RenewBeside × (new.view ≡ view_acted snapshot_length old.view RenewBeside)
-IsRenewal old new (Ok renewed.Waiting) = new ≡ old
-IsRenewal old new (Ok renewed.Ended) = ViewAllows snapshot_length old.view EndBeside × (new.view ≡ view_acted snapshot_length old.view EndBeside)
-IsRenewal old new (Ok renewed.Broken) = new ≡ old
-IsRenewal old new (Err fault) = ViewAllows snapshot_length old.view FaultBeside × (new.view ≡ view_acted snapshot_length old.view FaultBeside)

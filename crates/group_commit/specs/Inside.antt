@@ -2,7 +2,6 @@
 use Rattle.std.specs.Prelude.{◌≡◌, ℕ, ◌+◌, ◌<◌, ◌^◌, List, length}
 use Rattle.vault_state.specs.Vault.{Vault}
 use Rattle.vault_device.specs.Disk.{Disk}
-use Rattle.vault_store.specs.Beside.{is_beside}
 use Rattle.vault_store.specs.Seen.{Keeps}
 use Rattle.group_commit.specs.declared.vault.Vault.TheInside.{Inside}
 use Rattle.group_commit.specs.Entries.{Kept, told_in}
@@ -21,7 +20,6 @@ seen_of v = record {
     retired = v.retired;
     told = v.told;
     phase = v.store.phase;
-    beside = is_beside v.store.beside;
     broken = v.broken;
   };
   life = v.life;
@@ -43,4 +41,3 @@ pub record IsSoundVault {D : Type 0} (disk : D → Disk) (seen : VaultSeen D) (b
   pub fits : length_of seen.view < 2 ^ 64
   -- invariant 6
   pub stands : Keeps disk seen.store (state_of seen.view)
-  pub beside : seen.view.beside ≡ is_beside seen.store.beside

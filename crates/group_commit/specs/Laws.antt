@@ -1,6 +1,6 @@
 -- What is promised of every run. The definitions of runs speak of the length of a snapshot; the laws hold whatever it is.
 -- This project's own.
-use Rattle.std.specs.Prelude.{not, ◌&&◌, ◌≡◌, ◌↔◌, ◌⊎◌, ℕ, ◌+◌, ◌-◌, ◌<◌, ◌≤◌, IsTrue, true, false, List, ◌++◌, length, take, drop, Some, slice_get}
+use Rattle.std.specs.Prelude.{◌≡◌, ◌↔◌, ◌⊎◌, ℕ, ◌+◌, ◌-◌, ◌<◌, ◌≤◌, IsTrue, true, false, List, ◌++◌, length, take, drop, Some, slice_get}
 use Rattle.vault_state.specs.declared.claims.Claim.{Claim}
 use Rattle.vault_state.specs.declared.claims.Standing.TheVariants.{Held}
 use Rattle.vault_state.specs.declared.ids.ClaimId.{ClaimId}
@@ -59,11 +59,10 @@ ToldStays = (snapshot : Vault → ℕ) (events more : List Event) (position : �
 abbrev pub ToldIsSettled : Type 0
 ToldIsSettled = AfterEveryRun (λ snapshot w. (position : ℕ) → mark_at w.life position ≡ Some Told → position < w.settled)
 
--- the numbers of a life are in order, and after a failed device call a commit or a snapshot, alone or beside commits, stays under way for
--- good
+-- the numbers of a life are in order, and after a failed device call a commit or a snapshot stays under way for good
 pub record IsOrderly (w : World) : Type 0 where
   pub numbers : InOrder (length w.life) w.retired w.settled w.sealed w.phase
-  pub busy : w.broken ≡ true → (is_idle w.phase && not w.beside) ≡ false
+  pub busy : w.broken ≡ true → is_idle w.phase ≡ false
 
 -- they are so after every run
 abbrev pub WorldsAreOrderly : Type 0

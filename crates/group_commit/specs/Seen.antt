@@ -1,5 +1,5 @@
 -- What contracts see of a vault, and what every vault keeps. This project's own.
-use Rattle.std.specs.Prelude.{not, ◌&&◌, ◌≡◌, ℕ, ◌+◌, ◌-◌, ◌<◌, ◌≤◌, true, false, if◌then◌else◌, List, [], length, take, drop, Some}
+use Rattle.std.specs.Prelude.{◌≡◌, ℕ, ◌+◌, ◌-◌, ◌<◌, ◌≤◌, true, false, if◌then◌else◌, List, [], length, take, drop, Some}
 use Rattle.vault_model.specs.Said.{Effect}
 use Rattle.vault_state.specs.Vault.{Vault, IsVault, CountsBelow, durable}
 use Rattle.vault_format.specs.Snapshot.{snapshot_of}
@@ -54,7 +54,7 @@ state_of v = record {
 
 -- What every view keeps: the kept history is legal from the base, acknowledged entries are durable, and counted, the numbers are in
 -- order, few entries are kept, no session of the base gave more commands than were retired, and after a failed device call a commit
--- or a snapshot, alone or beside commits, stays under way for good.
+-- or a snapshot stays under way for good.
 pub record IsSoundView (v : View) : Type 0 where
   -- invariant 2 of src/lib.rt
   pub well_formed : IsVault v.base
@@ -70,4 +70,4 @@ pub record IsSoundView (v : View) : Type 0 where
   -- by this no session's count reaches its greatest
   pub counts : CountsBelow (v.retired + 1) v.base
   -- invariant 7
-  pub busy : v.broken ≡ true → (is_idle v.phase && not v.beside) ≡ false
+  pub busy : v.broken ≡ true → is_idle v.phase ≡ false

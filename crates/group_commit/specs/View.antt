@@ -3,16 +3,15 @@ use Rattle.std.specs.Prelude.{◌≡◌, ◌≢◌, ℕ, ◌+◌, ◌-◌, ◌<�
 use Rattle.vault_state.specs.Vault.{Vault, durable}
 use Rattle.group_commit.specs.declared.mark.Mark.TheVariants.{Open, Told, Forgotten}
 use Rattle.vault_store.specs.declared.phase.Phase.{Phase}
-use Rattle.vault_store.specs.declared.phase.Phase.TheVariants.{Idle, Start, Filled}
+use Rattle.vault_store.specs.declared.phase.Phase.TheVariants.{Idle, Start}
 use Rattle.group_commit.specs.Entries.{Kept, opened, mark_at, with_mark, told_in}
 use Rattle.group_commit.specs.History.{replay, outcome_of, entry_of, members, effects}
-use Rattle.vault_store.specs.Phases.{Row, row, NoCall, settled_by, after_fault, is_opening, is_snapshot}
+use Rattle.vault_store.specs.Phases.{Row, row, NoCall, settled_by, after_fault, is_opening}
 use Rattle.group_commit.specs.Phases.{waiting}
-use Rattle.group_commit.specs.World.{World, Act, Stage, Pump, Fault, StartSnapshot, StartBeside, RenewBeside, EndBeside, FaultBeside, Tell, Forget, Retire, vault_at}
+use Rattle.group_commit.specs.World.{World, Act, Stage, Pump, Fault, StartSnapshot, Tell, Forget, Retire, vault_at}
 
 -- the vault after the retired entries, the entries after them with their marks, and, counted from the life's start, how many
--- entries are settled (durable), sealed, retired and told (acknowledged); the phase; whether a snapshot is written beside commits; whether
--- a device call failed
+-- entries are settled (durable), sealed, retired and told (acknowledged); the phase; whether a device call failed
 pub record View : Type 0 where
   pub base : Vault
   pub kept : List Kept
@@ -21,7 +20,6 @@ pub record View : Type 0 where
   pub retired : ℕ
   pub told : ℕ
   pub phase : Phase
-  pub beside : Bool
   pub broken : Bool
 
 -- the view of a world
@@ -34,13 +32,12 @@ view_of w = record {
   retired = w.retired;
   told = told_in w.life;
   phase = w.phase;
-  beside = w.beside;
   broken = w.broken;
 }
 
 -- the view of a vault that was opened: nothing is kept
 abbrev pub opened_view : Vault → View
-opened_view vault = record { base = vault; kept = []; settled = 0; sealed = 0; retired = 0; told = 0; phase = Idle; beside = false; broken = false }
+opened_view vault = record { base = vault; kept = []; settled = 0; sealed = 0; retired = 0; told = 0; phase = Idle; broken = false }
 
 -- how many entries the present life has
 abbrev pub length_of : View → ℕ
@@ -65,11 +62,7 @@ abbrev pub ViewAllows : (Vault → ℕ) → View → Act → Type 0
 ViewAllows snapshot v (Stage session command) = v.broken ≡ false
 ViewAllows snapshot v Pump = v.broken ≡ false
 ViewAllows snapshot v Fault = (v.broken ≡ false) × ((view_row snapshot v).call ≢ NoCall)
-ViewAllows snapshot v StartSnapshot = (v.broken ≡ false) × (v.phase ≡ Idle) × (v.beside ≡ false)
-ViewAllows snapshot v StartBeside = (v.broken ≡ false) × (is_snapshot v.phase ≡ false) × (v.beside ≡ false)
-ViewAllows snapshot v RenewBeside = (v.broken ≡ false) × (v.beside ≡ true)
-ViewAllows snapshot v EndBeside = (v.broken ≡ false) × (v.phase ≡ Idle) × (v.beside ≡ true)
-ViewAllows snapshot v FaultBeside = (v.broken ≡ false) × (v.beside ≡ true)
+ViewAllows snapshot v StartSnapshot = (v.broken ≡ false) × (v.phase ≡ Idle)
 ViewAllows snapshot v (Tell position) =
     (position < v.settled) × (v.retired ≤ position) × (mark_at v.kept (position - v.retired) ≡ Some Open)
 ViewAllows snapshot v (Forget position) = (v.retired ≤ position) × (mark_at v.kept (position - v.retired) ≡ Some Open)
@@ -102,10 +95,6 @@ view_acted snapshot v (Stage session command) = record v { kept = v.kept ++ open
 view_acted snapshot v Pump = view_pumped (view_row snapshot v) v
 view_acted snapshot v Fault = view_failed (view_row snapshot v) v
 view_acted snapshot v StartSnapshot = record v { sealed = length_of v; phase = Start }
-view_acted snapshot v StartBeside = record v { beside = true }
-view_acted snapshot v RenewBeside = v
-view_acted snapshot v EndBeside = record v { sealed = v.settled; phase = Filled; beside = false }
-view_acted snapshot v FaultBeside = record v { broken = true }
 view_acted snapshot v (Tell position) = record v { kept = with_mark Told v.kept (position - v.retired); told = v.told + 1 }
 view_acted snapshot v (Forget position) = record v { kept = with_mark Forgotten v.kept (position - v.retired) }
 view_acted snapshot v Retire = record v { base = after_first v.base v.kept; kept = drop 1 v.kept; retired = v.retired + 1 }

@@ -5,15 +5,14 @@ use Rattle.vault_model.specs.Said.{Command}
 use Rattle.vault_state.specs.Vault.{Vault, new_vault, durable}
 use Rattle.group_commit.specs.declared.mark.Mark.TheVariants.{Open, Told, Forgotten}
 use Rattle.vault_store.specs.declared.phase.Phase.{Phase}
-use Rattle.vault_store.specs.declared.phase.Phase.TheVariants.{Idle, Start, Filled}
+use Rattle.vault_store.specs.declared.phase.Phase.TheVariants.{Idle, Start}
 use Rattle.group_commit.specs.Entries.{Kept, opened, mark_at, with_mark}
 use Rattle.group_commit.specs.History.{Member, Restart, replay, entry_of, members, effects}
-use Rattle.vault_store.specs.Phases.{Row, row, NoCall, settled_by, after_fault, is_opening, is_snapshot}
+use Rattle.vault_store.specs.Phases.{Row, row, NoCall, settled_by, after_fault, is_opening}
 use Rattle.group_commit.specs.Phases.{waiting}
 
 -- the vault with which the first life began, the members of earlier lives, the entries of the present life with their marks,
--- and, counted from its start, how many of them are durable (`settled`), sealed and retired; the phase; whether a snapshot is written
--- beside commits; whether a device call failed
+-- and, counted from its start, how many of them are durable (`settled`), sealed and retired; the phase; whether a device call failed
 pub record World : Type 0 where
   pub first : Vault
   pub earlier : List Member
@@ -22,13 +21,12 @@ pub record World : Type 0 where
   pub sealed : ℕ
   pub retired : ℕ
   pub phase : Phase
-  pub beside : Bool
   pub broken : Bool
 
 -- the world of a vault with which a first life begins
 abbrev pub world_of : Vault → World
 world_of vault =
-    record { first = vault; earlier = []; life = []; settled = 0; sealed = 0; retired = 0; phase = Idle; beside = false; broken = false }
+    record { first = vault; earlier = []; life = []; settled = 0; sealed = 0; retired = 0; phase = Idle; broken = false }
 
 -- the world of the new vault
 abbrev pub new_world : World
@@ -51,17 +49,12 @@ abbrev pub vault_of : World → Vault
 vault_of w = replay w.first (history w)
 
 -- what one call does: a command is staged, a pump, a pump with a fault, the start of a snapshot, a reply that is handed out, a
--- ticket that is forgotten, and an entry that is retired; and of a snapshot beside commits its start, a step, its last step, after which
--- it stands alone, and a step with a fault
+-- ticket that is forgotten, and an entry that is retired
 pub data Act : Type 0 where
   Stage : (session : ℕ) (command : Command) → Act
   Pump : Act
   Fault : Act
   StartSnapshot : Act
-  StartBeside : Act
-  RenewBeside : Act
-  EndBeside : Act
-  FaultBeside : Act
   Tell : (position : ℕ) → Act
   Forget : (position : ℕ) → Act
   Retire : Act
@@ -77,11 +70,7 @@ abbrev pub Allows : (Vault → ℕ) → World → Act → Type 0
 Allows snapshot w (Stage session command) = w.broken ≡ false
 Allows snapshot w Pump = w.broken ≡ false
 Allows snapshot w Fault = (w.broken ≡ false) × ((row_of snapshot w).call ≢ NoCall)
-Allows snapshot w StartSnapshot = (w.broken ≡ false) × (w.phase ≡ Idle) × (w.beside ≡ false)
-Allows snapshot w StartBeside = (w.broken ≡ false) × (is_snapshot w.phase ≡ false) × (w.beside ≡ false)
-Allows snapshot w RenewBeside = (w.broken ≡ false) × (w.beside ≡ true)
-Allows snapshot w EndBeside = (w.broken ≡ false) × (w.phase ≡ Idle) × (w.beside ≡ true)
-Allows snapshot w FaultBeside = (w.broken ≡ false) × (w.beside ≡ true)
+Allows snapshot w StartSnapshot = (w.broken ≡ false) × (w.phase ≡ Idle)
 Allows snapshot w (Tell position) = (position < w.settled) × (mark_at w.life position ≡ Some Open)
 Allows snapshot w (Forget position) = mark_at w.life position ≡ Some Open
 Allows snapshot w Retire = (w.retired < w.settled) × (mark_at w.life w.retired ≢ Some Open)
@@ -108,10 +97,6 @@ acted snapshot w (Stage session command) = record w { life = w.life ++ opened (e
 acted snapshot w Pump = pumped (row_of snapshot w) w
 acted snapshot w Fault = failed (row_of snapshot w) w
 acted snapshot w StartSnapshot = record w { sealed = length w.life; phase = Start }
-acted snapshot w StartBeside = record w { beside = true }
-acted snapshot w RenewBeside = w
-acted snapshot w EndBeside = record w { sealed = w.settled; phase = Filled; beside = false }
-acted snapshot w FaultBeside = record w { broken = true }
 acted snapshot w (Tell position) = record w { life = with_mark Told w.life position }
 acted snapshot w (Forget position) = record w { life = with_mark Forgotten w.life position }
 acted snapshot w Retire = record w { retired = w.retired + 1 }
@@ -137,7 +122,6 @@ crashed w gate = record {
   sealed = 0;
   retired = 0;
   phase = Idle;
-  beside = false;
   broken = false;
 }
 

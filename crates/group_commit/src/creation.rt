@@ -1,5 +1,4 @@
 //! A vault in two new files, at the beginning of its first life.
-ghost use Rattle.vault_store.specs.declared.phase.Renewal.TheVariants.{Nothing};
 ghost use Rattle.std.specs.Prelude.{◌≡◌, ◌⊎◌, [], IfOk, IfErr, IsTrue};
 ghost use Rattle.vault_state.specs.Vault.{new_vault};
 ghost use Rattle.vault_store.specs.declared.creation.CreateError.TheVariants.{Exists, Device as DeviceFailed, NoMemory as Wanted};
@@ -58,7 +57,6 @@ impl<D: Device, A: Allocator + Copy> Vault<D, A> {
     /// A vault at the beginning of a life, over a store that keeps the book.
     pub(crate) fn over(store: Store<D, A>, book: Book<A>, kept: Window<A>, life: u64) -> Self
         requires kept { kept ≡ [] }
-        requires alone { store.beside ≡ Nothing }
         requires stands { Keeps D.disk store (at_rest book) }
         ensures view { result.view ≡ opened_view book }
         ensures life { result.life ≡ life }
@@ -92,7 +90,6 @@ impl<D: Device, A: Allocator + Copy> Vault<D, A> {
         ensures view { IfOk result (λ vault. vault.view ≡ opened_view new_vault) }
         ensures life { IfOk result (λ vault. vault.life ≡ life) }
         ensures numbers { IfOk result (λ vault. Begins vault.store 1 34 0) }
-        ensures bare { IfOk result (λ vault. vault.store.copied ≡ 0) }
         ensures file { IsTrue (D.disk first).honest
             → IfOk result (λ vault. IsFilled (D.disk first) (D.disk (first_of vault.store)) new_file) }
         ensures empty { IsTrue (D.disk second).honest

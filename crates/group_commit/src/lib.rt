@@ -2,8 +2,7 @@
 //! keeps it.
 //!
 //! Promises: `create` and `open` begin a life. Each later call of `Vault` changes nothing, or makes one act that the view allows
-//! (`stage`, `pump`, `start_snapshot`, `start_beside`, `renew`, `redeem`, `forget`, `retire`). A reply is handed out only once its entry is
-//! durable. Any past of
+//! (`stage`, `pump`, `start_snapshot`, `redeem`, `forget`, `retire`). A reply is handed out only once its entry is durable. Any past of
 //! calls, crashes and openings is one run, call by call. After a crash, between two calls or at any moment of a pump or of an opening,
 //! the files stand for the durable vault after one prefix of the one history. That prefix has all acknowledged entries
 //! (`promises::recovery_gives_one_prefix`), and each receipt is found again in it. Files of one vault stay so, and after a crash they
@@ -20,7 +19,7 @@
 //! 4. Acknowledged entries are durable, and `told` counts them, retired ones too.
 //! 5. At most 4,096 entries are kept.
 //! 6. The store keeps the durable vaults after the durable entries, after the sealed ones and after all.
-//! 7. After a failed device call, a commit or a snapshot, alone or beside commits, stays under way for good.
+//! 7. After a failed device call, a commit or a snapshot stays under way for good.
 //!
 //! Only tested: runs over devices in memory (a full buffer, a full history, a snapshot, a failed write), each request for memory
 //! refused, speed.
@@ -29,7 +28,6 @@
 #![tactic(auto)]
 
 mod answers;
-mod beside;
 mod bygone;
 mod creation;
 mod entry;
@@ -52,6 +50,5 @@ pub use mark::Mark;
 pub use ticket::{Receipt, Ticket};
 pub use vault::Vault;
 pub use vault_store::{
-    Advanced as Pumped, CreateError, File, FileVersion, OpenError, Phase, Refused, Renewal,
-    Renewed, Started,
+    Advanced as Pumped, CreateError, File, FileVersion, OpenError, Phase, Refused, Started,
 };

@@ -1,5 +1,4 @@
 //! A vault that was left in two files, at the beginning of another life.
-ghost use Rattle.vault_store.specs.declared.phase.Renewal.TheVariants.{Nothing};
 ghost use Rattle.std.specs.Prelude.{◌≡◌, ◌⊎◌, [], IfOk, IfErr, IsTrue};
 ghost use Rattle.vault_store.specs.declared.opening.OpenError.TheVariants.{Device as DeviceFailed, NoMemory as Wanted};
 ghost use Rattle.vault_store.specs.Calls.{HasCause, AreQuiet};
@@ -27,8 +26,7 @@ fn begin<D: Device, A: Allocator + Copy>(
     opened: Result<(Store<D, A>, Book<A>), Refused<D, OpenError>>,
     life: u64,
 ) -> Result<Vault<D, A>, Refused<D, OpenError>>
-    requires kept { IfOk opened (λ opened. Keeps D.disk opened.0 (at_rest opened.1)) }
-    requires alone { IfOk opened (λ opened. (opened.0.beside ≡ Nothing) × (opened.0.copied ≡ 0)) }
+    requires { IfOk opened (λ opened. Keeps D.disk opened.0 (at_rest opened.1)) }
     ensures { IsHandedOver opened life result }
 {
     let (store, book) = match opened {
@@ -57,7 +55,6 @@ impl<D: Device, A: Allocator + Copy> Vault<D, A> {
         ensures begins { IfOk result (λ vault. vault.view ≡ opened_view vault.view.base) }
         ensures life { IfOk result (λ vault. vault.life ≡ life) }
         ensures buffer { IfOk result (λ vault. vault.store.buffer ≡ []) }
-        ensures bare { IfOk result (λ vault. vault.store.copied ≡ 0) }
         ensures read { IsTrue (D.disk first).honest → IsTrue (D.disk second).honest
             → IfOk result (λ vault. AreRead (D.disk first).shown (D.disk second).shown
             (record {

@@ -6,7 +6,7 @@ ghost use Rattle.vault_store.specs.Seen.{first_of, second_of};
 use crate::bygone::Bygone;
 use crate::entry::Entry;
 use crate::window::Window;
-use crate::{FileVersion, Phase, Renewal};
+use crate::{FileVersion, Phase};
 use std::alloc::{Allocator, Global};
 use std::marker::Model;
 use std::snapshot::Snapshot;
@@ -97,13 +97,6 @@ impl<D: Device, A: Allocator + Copy> Vault<D, A> {
         ensures { result ≡ self.now.view.phase }
     {
         self.store.phase()
-    }
-
-    /// Which step of a snapshot beside commits comes next.
-    pub fn renewal(&self) -> Renewal
-        ensures { result ≡ self.now.store.beside }
-    {
-        self.store.renewal()
     }
 
     /// The version of the active file.

@@ -5,7 +5,7 @@ use mathlib.Core.List.{IsPrefix}
 use Rattle.vault_model.specs.Said.{Command}
 use Rattle.group_commit.specs.Entries.{Entry}
 use Rattle.group_commit.specs.History.{entry_of}
-use Rattle.group_commit.specs.World.{Act, Stage, Pump, Fault, StartSnapshot, StartBeside, RenewBeside, EndBeside, FaultBeside, Forget, Retire}
+use Rattle.group_commit.specs.World.{Act, Stage, Pump, Fault, StartSnapshot, Forget, Retire}
 use Rattle.group_commit.specs.World as world
 use Rattle.group_commit.specs.View.{View, length_of, book_of, ViewAllows, view_acted}
 use Rattle.group_commit.specs.Ticket.{TicketSeen, Told as ToldSeen, ticket_of}
@@ -107,10 +107,6 @@ retired_rises v (Stage session command) = omega arith
 retired_rises v Pump = omega arith
 retired_rises v Fault = omega arith
 retired_rises v StartSnapshot = omega arith
-retired_rises v StartBeside = omega arith
-retired_rises v RenewBeside = omega arith
-retired_rises v EndBeside = omega arith
-retired_rises v FaultBeside = omega arith
 retired_rises v (world.Tell position) = omega arith
 retired_rises v (Forget position) = omega arith
 retired_rises v Retire = omega arith

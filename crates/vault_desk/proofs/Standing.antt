@@ -6,7 +6,7 @@ use Rattle.group_commit.specs.declared.mark.Mark.{Mark}
 use Rattle.group_commit.specs.declared.mark.Mark.TheVariants as marks
 use Rattle.group_commit.specs.Entries.{Entry, Kept, opened, with_mark}
 use Rattle.group_commit.specs.History.{Member, Given, entry_of, members}
-use Rattle.group_commit.specs.World.{World, world_of, Act, Stage, Pump, Fault, StartSnapshot, StartBeside, RenewBeside, EndBeside, FaultBeside, Tell, Forget, Retire, acted, history, vault_of}
+use Rattle.group_commit.specs.World.{World, world_of, Act, Stage, Pump, Fault, StartSnapshot, Tell, Forget, Retire, acted, history, vault_of}
 use Rattle.group_commit.specs.Runs.{Event, Within, happened, run, IsRun}
 use Rattle.group_commit.specs.View.{View, view_of}
 use Rattle.group_commit.specs.Ticket.{Told, entry_in}
@@ -42,10 +42,6 @@ stays w (Stage session command) place entry i =
 stays w Pump place entry i = i
 stays w Fault place entry i = i
 stays w StartSnapshot place entry i = i
-stays w StartBeside place entry i = i
-stays w RenewBeside place entry i = i
-stays w EndBeside place entry i = i
-stays w FaultBeside place entry i = i
 stays w (Tell position) place entry i = marked_in marks.Told w.life position place entry i
 stays w (Forget position) place entry i = marked_in marks.Forgotten w.life position place entry i
 stays w Retire place entry i = i
@@ -56,10 +52,6 @@ earlier_stays w (Stage session command) = refl
 earlier_stays w Pump = refl
 earlier_stays w Fault = refl
 earlier_stays w StartSnapshot = refl
-earlier_stays w StartBeside = refl
-earlier_stays w RenewBeside = refl
-earlier_stays w EndBeside = refl
-earlier_stays w FaultBeside = refl
 earlier_stays w (Tell position) = refl
 earlier_stays w (Forget position) = refl
 earlier_stays w Retire = refl

@@ -1,7 +1,7 @@
 //! Whether two files are of one vault.
 //!
 //! Promises: two files are reported as those of two vaults exactly if both are open with right heads, and either a generation lies between
-//! theirs, or the older one, of the generation before, leads to a vault that is no earlier state of what the newer one leads to
+//! theirs, or the older one, of the generation before, leads to a vault that is no earlier state of the newer one's snapshot
 //! (`are_of_two_vaults`). That the files of one vault never are is said by `vault_store` (`advance`, `laws`).
 //! Stands on: vault_device, vault_format, design_tree, part_versions, vault_checkout, vault_store. Must not know: commits, sessions,
 //! what a report is for.

@@ -3,13 +3,15 @@ ghost use Rattle.std.specs.Prelude.{◌↔◌, ◌+◌, ◌<◌, ℕ, IsTrue, If
 ghost use Rattle.vault_format.specs.Files.{HasRightHead};
 ghost use Rattle.vault_store.specs.Calls.{HasCause, IsQuiet};
 ghost use Rattle.vault_store.specs.Read.{AreReads};
-ghost use Rattle.vault_store.specs.TwoVaults.{AreUnrelated, IsOfAnother, AreOfTwoVaults, IsGenerationOf, IsLedTo, IsUnread, AreUnread};
+ghost use Rattle.vault_store.specs.TwoVaults.{AreUnrelated, IsOfAnother, AreOfTwoVaults, IsGenerationOf, IsLedTo, IsBaseOf, IsUnread, AreUnread};
 
 use crate::earlier::is_earlier;
 use std::alloc::Allocator;
 use vault_checkout::Book;
 use vault_device::{Device, Fault};
-use vault_store::{BodyError, Contents, Head, ReadError, read_contents, read_head};
+use vault_store::{
+    Base, BodyError, Contents, Head, ReadError, read_contents, read_first_base, read_head,
+};
 
 // The generation of a file whose head is right; `None` for any other.
 fn right_generation<D: Device>(device: &mut D) -> Result<Option<u64>, Fault>
@@ -55,6 +57,30 @@ fn vault_in<D: Device, A: Allocator + Copy>(
     }
 }
 
+// The vault of the snapshot of a file with a right head; `None` if the snapshot is damaged.
+fn base_in<D: Device, A: Allocator + Copy>(
+    alloc: A,
+    device: &mut D,
+) -> Result<Option<Book<A>>, BodyError>
+    ensures reads { AreReads (D.disk device.old) (D.disk device.new) }
+    ensures base { IsTrue (D.disk device.old).honest → IfOk result (IsBaseOf (D.disk device.old).shown) }
+    ensures refused { IfErr result (IsUnread (D.disk device.old) (D.disk device.new)) }
+{
+    match read_first_base(alloc, device) {
+        Ok(base) => {
+            let Base {
+                version: _,
+                book,
+                end: _,
+            } = base;
+            Ok(Some(book))
+        }
+        Err(ReadError::Damaged(_)) => Ok(None),
+        Err(ReadError::Device) => Err(BodyError::Device),
+        Err(ReadError::NoMemory) => Err(BodyError::NoMemory),
+    }
+}
+
 // Whether the older of two files is not of the newer one's vault. Their heads are right, and their generations differ by one.
 fn is_unrelated<D: Device, A: Allocator + Copy>(
     alloc: A,
@@ -73,7 +99,7 @@ fn is_unrelated<D: Device, A: Allocator + Copy>(
         Ok(None) => return Ok(false),
         Err(why) => return Err(why),
     };
-    match vault_in(alloc, newer) {
+    match base_in(alloc, newer) {
         Ok(Some(later)) => {
             let is_related = is_earlier(&earlier, &later);
             drop(earlier);
@@ -115,8 +141,8 @@ fn is_of_another<D: Device, A: Allocator + Copy>(
 
 /// Whether two files are of two vaults, in either order. It reads each as opening does, and writes or syncs nothing.
 ///
-/// It reads both heads. If both are open and right and their generations differ by one, it also reads both files up to their tail gates.
-/// Beside what opening takes for each of them, it takes memory for both vaults at once, and keeps
+/// It reads both heads. If both are open and right and their generations differ by one, it also reads the older file up to its tail
+/// gate and the newer one's snapshot. Beside what opening takes for each of them, it takes memory for both vaults at once, and keeps
 /// none of it.
 pub fn are_of_two_vaults<D: Device, A: Allocator + Copy>(
     alloc: A,

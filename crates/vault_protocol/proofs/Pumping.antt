@@ -34,24 +34,19 @@ pub pumped_talk : {D : Type 0} (old new : VaultSeen D) (answer : Pumped) (sessio
     → (old.view.broken ≡ false → answer ≡ (view_row snapshot_length old.view).answer)
     → (old.view.broken ≡ false → new.view ≡ view_acted snapshot_length old.view Pump)
     → AreNumbers old new (Ok answer)
-    → old.store.copied ≡ 0
     → talk_of new sessions asked lines ≡ pumped now
 unfolding pumped
-pumped_talk old new answer sessions asked lines now is answered broken row view numbers bare =
+pumped_talk old new answer sessions asked lines now is answered broken row view numbers =
     let good : old.view.broken ≡ false = refuted old.view.broken (λ b. answered (same_answer answer answers.Broken (broken b))) in
     subst (λ (t : Talk). talk_of new sessions asked lines ≡ pumped t) is (λ i. record {
       view = view good i;
       buffer = (ap length numbers.buffer ∙ ap (λ b. length (cond (is_idle old.view.phase && not b) [] old.store.buffer)) good ∙ emptied (is_idle old.view.phase) old.store.buffer) i;
       generation = (numbers.generation ∙ ap (λ (a : Pumped). generation_after old.view (Ok a) old.store.generation) (row good)) i;
-      tail = (numbers.tail bare ∙ ap (λ (a : Pumped). tail_after old.view (Ok a) old.store.tail) (row good)) i;
+      tail = (numbers.tail ∙ ap (λ (a : Pumped). tail_after old.view (Ok a) old.store.tail) (row good)) i;
       sessions = sessions;
       asked = asked;
       lines = lines;
     })
-
-pub not_is : (b : Bool) → not b ≡ true → b ≡ false
-not_is true e = absurd (cc)
-not_is false e = refl
 
 -- The start of a snapshot.
 module _ {D E : Type 0} (old new : VaultSeen D) (answer : Started) (sessions asked : List ℕ) (lines : List Line) (now : Talk)
@@ -65,15 +60,12 @@ module _ {D E : Type 0} (old new : VaultSeen D) (answer : Started) (sessions ask
   before = talk_of old sessions asked lines
 
   can_start : MayStart old → may_start before ≡ true
-  can_start able =
-      and_from (is_idle old.view.phase && not old.view.beside) (nat_lt (old.store.generation + 1) (2 ^ 64))
-      (and_from (is_idle old.view.phase) (not old.view.beside) (ap is_idle able.idle) (ap not able.alone)) (lt-ltb (old.store.generation + 1) (2 ^ 64) able.fits)
+  can_start able = and_from (is_idle old.view.phase) (nat_lt (old.store.generation + 1) (2 ^ 64)) (ap is_idle able.idle) (lt-ltb (old.store.generation + 1) (2 ^ 64) able.fits)
 
   has_to : may_start before ≡ true → MayStart old
   has_to able =
-      let parts = and_parts (is_idle old.view.phase && not old.view.beside) (nat_lt (old.store.generation + 1) (2 ^ 64)) able in
-      let still = and_parts (is_idle old.view.phase) (not old.view.beside) parts.0 in
-      record { idle = idle_is old.view.phase still.0; alone = not_is old.view.beside still.1; fits = ltb-true (old.store.generation + 1) (2 ^ 64) parts.1 }
+      let parts = and_parts (is_idle old.view.phase) (nat_lt (old.store.generation + 1) (2 ^ 64)) able in
+      record { idle = idle_is old.view.phase parts.0; fits = ltb-true (old.store.generation + 1) (2 ^ 64) parts.1 }
 
   at_yes : answer ≡ starts.Yes → talk_of new sessions asked lines ≡ started before
   unfolding started

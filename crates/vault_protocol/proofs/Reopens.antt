@@ -17,7 +17,6 @@ use Rattle.vault_store.specs.Laws.{AreHonest, OneReading}
 use Rattle.vault_store.proofs.Busy.{opening_is_busy}
 use Rattle.group_commit.specs.View.{view_at}
 use Rattle.group_commit.specs.Seen.{VaultSeen, snapshot_length, state_of, effects_between}
-use Rattle.vault_store.proofs.NewFiles.{bare_length}
 use Rattle.group_commit.specs.Calls.{behind_snapshot, gained, generation_after, tail_after}
 use Rattle.group_commit.specs.Promises.{ImagesStand}
 use Rattle.vault_device.specs.Picks.{gives_one}
@@ -41,7 +40,7 @@ picked_one pick true active spare x y is also = also
 picked_one pick false active spare x y is also = is
 
 module _ (seen : VaultSeen MemDisk) (pick : Pick) (x y : List ℕ) (base : Vault) (version : FileVersion) (generation tail journal_length : ℕ)
-    (keeps : Keeps disk_of seen.store (state_of seen.view)) (bare : seen.store.copied ≡ 0) (stand : ImagesStand disk_of seen) (one : OneReading) (whole : seen.view.broken ≡ false)
+    (keeps : Keeps disk_of seen.store (state_of seen.view)) (stand : ImagesStand disk_of seen) (one : OneReading) (whole : seen.view.broken ≡ false)
     (is : x ≡ picked pick (content_of (first_of seen.store).history)) (also : y ≡ picked pick (content_of (second_of seen.store).history))
     (image : (disk_of (first_of seen.store)).IsImage x) (other : (disk_of (second_of seen.store)).IsImage y)
     (read : AreRead x y (record { vault = base; version = version; generation = generation; tail = tail; journal_length = journal_length })) where
@@ -82,8 +81,8 @@ module _ (seen : VaultSeen MemDisk) (pick : Pick) (x y : List ℕ) (base : Vault
   sealed_tail opens = by_test (is_snapshot seen.view.phase) refl
     where
       by_test : (b : Bool) → is_snapshot seen.view.phase ≡ b
-          → cond b (length seen.store.rest) (seen.store.tail + frame_extra + seen.store.sealed) ≡ cond b (behind_snapshot seen.view) (seen.store.tail + gained seen.view (Ok Settled))
-      by_test true e = bare_length disk_of seen.store (state_of seen.view) keeps e bare ∙ ap (λ v. header + snapshot_length v) (sealed_vault opens)
+          → cond b (header + snapshot_length (state_of seen.view).sealed) (seen.store.tail + frame_extra + seen.store.sealed) ≡ cond b (behind_snapshot seen.view) (seen.store.tail + gained seen.view (Ok Settled))
+      by_test true e = ap (λ v. header + snapshot_length v) (sealed_vault opens)
       by_test false e = let more : frame_extra + seen.store.sealed ≡ gained seen.view (Ok Settled) = frame_bytes opens e in omega (arith, more)
 
   sealed_read : is_opening seen.view.phase ≡ true → AreRead x y sealed → IsReopened seen true base generation tail

@@ -1,7 +1,6 @@
 -- What each act and each opening keep, a script keeps.
 use Rattle.std.proofs.Common.{◌≡◌, ℕ, zero, suc, ◌+◌, ◌-◌, ◌<◌, ◌≤◌, ◌&&◌, Bool, true, false, cond, inl, inr, List, [], ◌∷◌, Option, Some, None, refl, arith}
-use Rattle.std.specs.Prelude.{not, codes, nat_lt, slice_index}
-use Rattle.vault_protocol.proofs.Pumping.{not_is}
+use Rattle.std.specs.Prelude.{codes, nat_lt, slice_index}
 use Rattle.std.specs.Str.{bytes_eq}
 use Rattle.std.proofs.lemmas.Bool.{and_parts, ltb-true}
 use Rattle.vault_model.specs.Said.{Command}
@@ -111,7 +110,7 @@ start_sound P k talk s = by_test (may_start talk) refl
     by_test : (b : Bool) → may_start talk ≡ b → IsSoundTalk P (cond b (record talk { view = view_acted snapshot_length talk.view StartSnapshot; buffer = 0 }) talk)
     by_test true e = record {
       vault = record {
-        holds = k.acts talk.view StartSnapshot s.vault.holds (let still = and_parts (is_idle talk.view.phase) (not talk.view.beside) (and_parts (is_idle talk.view.phase && not talk.view.beside) _ e).0 in (s.vault.unbroken, idle_is talk.view.phase still.0, not_is talk.view.beside still.1));
+        holds = k.acts talk.view StartSnapshot s.vault.holds (s.vault.unbroken, idle_is talk.view.phase (and_parts (is_idle talk.view.phase) _ e).0);
         unbroken = s.vault.unbroken;
       };
       awaited = s.awaited;

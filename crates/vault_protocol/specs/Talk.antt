@@ -1,5 +1,5 @@
 -- A conversation of several connections with one vault: what is printed, and what each order to the vault does. This project's own.
-use Rattle.std.specs.Prelude.{not, ℕ, zero, suc, ◌+◌, ◌-◌, ◌/◌, ◌^◌, ◌==◌, ◌&&◌, ◌||◌, nat_le, nat_lt, Bool, true, false, List, [], ◌∷◌, ◌++◌, codes, decimal, length, drop, filter, replicate, slice_get, slice_index, slice_set, Option, Some, None, Ok, if◌then◌else◌}
+use Rattle.std.specs.Prelude.{ℕ, zero, suc, ◌+◌, ◌-◌, ◌/◌, ◌^◌, ◌==◌, ◌&&◌, ◌||◌, nat_le, nat_lt, Bool, true, false, List, [], ◌∷◌, ◌++◌, codes, decimal, length, drop, filter, replicate, slice_get, slice_index, slice_set, Option, Some, None, Ok, if◌then◌else◌}
 use Rattle.std.specs.Option.{option_map}
 use Rattle.vault_model.specs.Said.{Command, Reply, Effect}
 use Rattle.vault_model.specs.declared.replies.Reply.TheVariants as replies
@@ -201,7 +201,7 @@ committed talk = pumps (pumps_needed talk.view) talk
 
 -- whether a snapshot may be begun: nothing is under way, and there is a next generation
 abbrev pub may_start : Talk → Bool
-may_start talk = is_idle talk.view.phase && not talk.view.beside && nat_lt (talk.generation + 1) (2 ^ 64)
+may_start talk = is_idle talk.view.phase && nat_lt (talk.generation + 1) (2 ^ 64)
 
 -- a snapshot is begun, if one may be
 unfoldable pub started : Talk → Talk

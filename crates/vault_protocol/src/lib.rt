@@ -8,7 +8,6 @@
 //!
 //! Invariants:
 //! 1. `Connection`: its number is 1 to 64.
-//! 2. `Runner`: no snapshot beside commits is written, so no frames were copied.
 //!
 //! Neither proved nor tested: that `Read` comes from a reader that fails, and `NoMemory` from an allocation that was refused.
 //! Start at: docs/PROTOCOL.md, specs/Talk.antt, specs/Script.antt and runner.rt.

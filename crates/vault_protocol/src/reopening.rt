@@ -21,13 +21,11 @@ pub(crate) fn reopened<A: Allocator + Copy>(
     vault: Vault<MemDevice<A>, A>,
     pick: Pick,
 ) -> Result<Vault<MemDevice<A>, A>, ScriptError>
-    requires bare { vault.store.copied ≡ 0 }
     ensures view { IfOk result
         (λ next. next.view ≡ opened_view
         (durable (view_at vault.view (if gives_one pick && is_opening vault.view.phase then vault.view.sealed else vault.view.settled)))) }
     ensures life { IfOk result (λ next. next.life ≡ (vault.life + 1) % 2 ^ 64) }
     ensures buffer { IfOk result (λ next. next.store.buffer ≡ []) }
-    ensures bare { IfOk result (λ next. next.store.copied ≡ 0) }
     ensures generation { IfOk result
         (λ next. next.store.generation
         ≡ (if gives_one pick && is_opening vault.view.phase then generation_after vault.view (Ok Settled) vault.store.generation

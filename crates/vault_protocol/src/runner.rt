@@ -36,7 +36,7 @@ pub(crate) struct Runner<A: Allocator + Copy> {
 }
 
 impl<A: Allocator + Copy> Model for Runner<A> {
-    ghost use Rattle.std.specs.Prelude.{◌≡◌, length};
+    ghost use Rattle.std.specs.Prelude.{length};
     ghost use Rattle.vault_protocol.specs.Talk.{Talk};
     ghost use Rattle.vault_protocol.specs.Waiting.{lines_of};
 
@@ -51,8 +51,6 @@ impl<A: Allocator + Copy> Model for Runner<A> {
       asked = r.asked;
       lines = lines_of r.lines.items;
     } };
-
-    ghost invariant = { λ r. r.vault.store.copied ≡ 0 };
 }
 
 /// A connection speaks for the session that it opened last, and for session 0 again once it left.

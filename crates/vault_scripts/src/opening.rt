@@ -54,27 +54,3 @@ pub(crate) fn begin(alloc: Global, first: MemDevice, second: MemDevice, told: &m
         }
     }
 }
-
-/// Opens the vault of two files, and begins a snapshot of it beside commits.
-pub(crate) fn begin_beside(
-    alloc: Global,
-    first: MemDevice,
-    second: MemDevice,
-    told: &mut Text,
-) -> Stage {
-    laws::what_is_noted_is_spelled::<MemDevice>();
-    match Store::open(alloc, first, second) {
-        Ok((mut store, book)) => {
-            let started = store.start_beside(alloc, &book);
-            drop(book);
-            if let Ok(started) = started {
-                told.put_value(&started, "");
-            }
-            Stage::Open(store)
-        }
-        Err(Refused { why, first, second }) => {
-            tell_not_opened(told, why);
-            Stage::Files(first, second)
-        }
-    }
-}

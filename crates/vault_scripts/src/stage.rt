@@ -1,7 +1,7 @@
 //! Two files, and the store that is open over them.
 
 use crate::bytes::Names;
-use crate::opening::{begin, begin_beside, create, open};
+use crate::opening::{begin, create, open};
 use crate::steps::{Step, at_files, at_store, both_crash};
 use crate::text::Text;
 use std::alloc::Global;
@@ -42,9 +42,6 @@ impl Stage {
             (Stage::Files(first, second), "create") => (create(alloc, first, second, told), true),
             (Stage::Files(first, second), "open") => (open(alloc, first, second, told), true),
             (Stage::Files(first, second), "snapshot") => (begin(alloc, first, second, told), true),
-            (Stage::Files(first, second), "beside") => {
-                (begin_beside(alloc, first, second, told), true)
-            }
             (Stage::Files(mut first, mut second), _) => {
                 let is_made = at_files(alloc, names, (&mut first, &mut second), step, told);
                 (Stage::Files(first, second), is_made)

@@ -21,7 +21,6 @@
 //! | `create` | makes a new vault in them | `Made`, or `Exists`, `Device` |
 //! | `open` | opens the vault in them | what it is, or `NoVault`, `Device`, `First damaged at N` |
 //! | `snapshot` | opens it, and begins a snapshot of it | `Yes`, or as `open` |
-//! | `beside` | opens it, and begins a snapshot of it beside commits | `Yes`, or as `open` |
 //! | `crash PICK PICK` | crashes the machine; of a file's unsynced bytes it leaves the `old`, the `new`, or this byte everywhere | |
 //!
 //! Once a vault was made or opened:
@@ -30,8 +29,7 @@
 //! |---|---|---|
 //! | `note RECORD`, `note N times RECORD` | notes the effect of this record, once or N times | nothing, or `no room` |
 //! | `advance N` | makes N steps of a commit or a snapshot | for each `Moved`, `Settled`, `Idle`, `Broken` or `Fault` |
-//! | `renew N` | makes N steps of a snapshot beside commits | for each `Nothing`, `Moved`, `Waiting`, `Ended`, `Broken` or `Fault` |
-//! | `phase`, `renewal` | | the phase; how far a snapshot beside commits has come |
+//! | `phase` | | the phase |
 //! | `frames` | | how many bytes of frames there are |
 //! | `version` | | the version of the active file |
 //! | `room`, `wanted` | | whether there is room for an effect; whether a snapshot is wanted |
@@ -180,9 +178,7 @@ pub(crate) fn at_store(
     match step.verb {
         "note" => return note(alloc, names, store, step.rest, told),
         "advance" => advance(store, step.rest, told),
-        "renew" => renew(store, step.rest, told),
         "phase" => told.put_value(&store.phase(), ""),
-        "renewal" => told.put_value(&store.renewal(), ""),
         "frames" => told.put_value(&store.journal_len(), ""),
         "version" => told.put_value(&store.version(), ""),
         "room" => told.put_value(&store.room(), ""),
@@ -199,18 +195,6 @@ fn advance(store: &mut Store<MemDevice>, words: &str, told: &mut Text) {
         }
         match store.advance() {
             Ok(advanced) => told.put_value(&advanced, ""),
-            Err(fault) => told.put_value(&fault, ""),
-        }
-    }
-}
-
-fn renew(store: &mut Store<MemDevice>, words: &str, told: &mut Text) {
-    for step in 0..words.parse::<u8>().unwrap_or(0) {
-        if step > 0 {
-            told.put(" ");
-        }
-        match store.renew() {
-            Ok(renewed) => told.put_value(&renewed, ""),
             Err(fault) => told.put_value(&fault, ""),
         }
     }

@@ -17,18 +17,16 @@ use Rattle.vault_format.specs.Files.{most_records, frame_bytes, EndsBehind, IsSp
 use Rattle.vault_store.specs.Phases.{is_idle, is_snapshot, may_open}
 use Rattle.vault_store.specs.State.{StoreState}
 use Rattle.vault_store.specs.OnDisk.{IsEither, IsOnDisk}
-use Rattle.vault_store.specs.Spares.{ClosedMayStand, IsSpareOn}
+use Rattle.vault_store.specs.Spares.{IsSpareOn}
 use Rattle.vault_store.specs.Seen.{StoreSeen, of_file, other, first_of, second_of, Keeps, IsLeftInside, settled_reading}
 use Rattle.vault_store.specs.Companions.{MayPrecede, IsOfOneVault}
 use Rattle.vault_store.specs.TwoVaults.{AreOfTwoVaults}
 use Rattle.vault_store.specs.Step.{renews, gained, IsAtMostOneCall, IsStep, AreNumbers, MayBeLeft, IsAdvance}
-use Rattle.vault_store.specs.Beside.{spare_phase}
-use Rattle.vault_store.proofs.Asides.{closed_spare}
-use Rattle.vault_store.proofs.Besides.{spare_still, beside_leaves}
-use Rattle.vault_store.proofs.Companions.{IsFrom, either_one, from_after, shut_precedes, beside_pass, one_in, pass_here}
+use Rattle.vault_store.proofs.Asides.{aside_of, aside_leaves, still_aside}
+use Rattle.vault_store.proofs.Companions.{IsBegun, begun_ends, begun_either, begun_shorter, begun_on, front_based, beside_pass, one_in, pass_here}
 use Rattle.vault_store.proofs.Disks.{to_written, to_bodied, to_gated, to_idle, behind_ends, opening_either}
 use Rattle.vault_store.proofs.Kept.{IsMove, phase_kept, sealed_kept, settled_kept}
-use Rattle.vault_store.proofs.Left.{IsLeftHere, left, leaves_in, inside_front, inside_either}
+use Rattle.vault_store.proofs.Left.{IsLeftHere, left, inside_front, inside_either}
 use Rattle.vault_store.proofs.Passes.{two_exchanged}
 use Rattle.vault_store.proofs.Placed.{inside_exchanged, calls_placed, moments_placed}
 use Rattle.vault_store.proofs.Rests.{still_numbers}
@@ -108,13 +106,6 @@ LeavesFront old new tail p = (front records x : List ℕ) → length front ≡ t
 abbrev pub LeavesEither : Disk → Disk → ℕ → Phase → Type 0
 LeavesEither old new tail p = (front records x : List ℕ) → length front ≡ tail → IsOnDisk old p false front records → new.WasImage old.moment x → IsEither front records x
 
-abbrev pub LeavesFrom : Disk → Disk → ℕ → Phase → Type 0
-LeavesFrom old new tail p = (front records x : List ℕ) → length front ≡ tail → IsOnDisk old p false front records → new.WasImage old.moment x → IsFrom old p front records x
-
--- what the new disk may leave, whatever the front and the records
-abbrev pub IsNowFrom : Disk → Disk → ℕ → ℕ → Phase → Type 0
-IsNowFrom old new tail sealed p = (front records : List ℕ) → length front ≡ tail → length records ≡ sealed → IsOnDisk old p false front records → (x : List ℕ) → new.IsImage x → IsFrom old p front records x
-
 module _ {D : Type 0} (disk : D → Disk) (old : StoreSeen D) (active : D) (p : Phase) (is : old.phase ≡ p) (unbroken : old.broken ≡ false) (lawful : IsTrue (disk old.active).honest → IsLawful (disk old.active)) (lawful_spare : IsTrue (disk old.spare).honest → IsLawful (disk old.spare)) where
   -- a state that the store keeps, as one in the phase
   pub in_phase : (s : StoreState) → Keeps disk old s → record s { phase = p; broken = false } ≡ s
@@ -124,24 +115,24 @@ module _ {D : Type 0} (disk : D → Disk) (old : StoreSeen D) (active : D) (p : 
   keeps_in s keeps = subst (Keeps disk old) (sym (in_phase s keeps)) keeps
 
   -- the spare of a commit
-  aside_left : (MayStand : List ℕ → Type 0) → ClosedMayStand MayStand → is_snapshot p ≡ false → IsSpareOn MayStand (disk old.spare) (spare_phase p old.beside) false old.shut old.rest → (y : List ℕ) → (disk old.spare).IsImage y → MayStand y
-  aside_left MayStand closed commit is y image = beside_leaves MayStand closed (disk old.spare) old.shut old.rest old.beside p false commit is y image
+  aside_left : (MayStand : List ℕ → Type 0) → is_snapshot p ≡ false → IsSpareOn MayStand (disk old.spare) p false old.shut old.rest → (y : List ℕ) → (disk old.spare).IsImage y → MayStand y
+  aside_left MayStand commit is y image = aside_leaves MayStand (disk old.spare) old.shut old.rest (aside_of MayStand (disk old.spare) old.shut old.rest p commit is) y image
 
   -- a crash inside a step that leaves the front, whatever it leaves behind that
-  passes_begun : is_snapshot p ≡ false → (IsTrue (disk old.active).honest → LeavesFrom (disk old.active) (disk active) old.tail p)
+  passes_begun : is_snapshot p ≡ false → (IsTrue (disk old.active).honest → (front records x : List ℕ) → length front ≡ old.tail → IsOnDisk (disk old.active) p false front records → (disk active).WasImage (disk old.active).moment x → IsBegun front x)
       → (s : StoreState) (x y : List ℕ) → Keeps disk old s → IsOfOneVault disk old → ArePassed disk old active x y
   passes_begun commit move s x y keeps one_vault =
       moments_placed disk old.which old.active old.spare active old.spare (λ v w. AreOfTwoVaults v w → ⊥) (λ v w pass two. pass (two_exchanged w v two))
       (λ v w one two may.
       let files = (keeps_in s keeps).files one two in
       let are = one_in disk old p false is unbroken one_vault one two in
-      beside_pass v w old.generation are.least
-      (from_after disk old (record s { phase = p; broken = false }) (keeps_in s keeps) files.front files.is_front are commit (lawful one) v
-      (move one files.front (records_of s.sealing) v (sym files.is_front.tail_is) files.active may.0)) (aside_left (MayPrecede old.generation are.least) (shut_precedes old.generation are.least) commit are.beside w ((lawful_spare two).only_now w may.1))) x y
+      beside_pass v w old.generation are.base
+      (front_based (disk old.active) files.front (settled_reading old (record s { phase = p; broken = false })) files.is_front are.base (lawful one) (begun_on (disk old.active) p false files.front (records_of s.sealing) files.active) are.based v
+      (move one files.front (records_of s.sealing) v (sym files.is_front.tail_is) files.active may.0)) (aside_left (MayPrecede old.generation are.base) commit are.beside w ((lawful_spare two).only_now w may.1))) x y
 
   -- a crash inside a step that leaves the front
-  pub leaves_front : is_snapshot p ≡ false → (IsTrue (disk old.active).honest → LeavesFront (disk old.active) (disk active) old.tail p) → (IsTrue (disk old.active).honest → LeavesFrom (disk old.active) (disk active) old.tail p) → IsInside disk old active
-  leaves_front commit move from = record {
+  pub leaves_front : is_snapshot p ≡ false → (IsTrue (disk old.active).honest → LeavesFront (disk old.active) (disk active) old.tail p) → IsInside disk old active
+  leaves_front commit move = record {
     moments = λ s x y keeps.
         moments_placed disk old.which old.active old.spare active old.spare (IsLeftInside old s) (inside_exchanged old s)
         (λ v w one two may.
@@ -149,13 +140,13 @@ module _ {D : Type 0} (disk : D → Disk) (old : StoreSeen D) (active : D) (p : 
         let files = here.files one two in
         subst (λ (t : StoreState). IsLeftInside old t v w) (in_phase s keeps)
         (inside_front disk old (record s { phase = p; broken = false }) here files.front files.is_front v w
-        (move one files.front (records_of s.sealing) v (sym files.is_front.tail_is) files.active may.0) (aside_left (IsSpare old.generation) (closed_spare old.generation) commit files.spare w ((lawful_spare two).only_now w may.1)))) x y;
-    passes = passes_begun commit from;
+        (move one files.front (records_of s.sealing) v (sym files.is_front.tail_is) files.active may.0) (aside_left (IsSpare old.generation) commit files.spare w ((lawful_spare two).only_now w may.1)))) x y;
+    passes = passes_begun commit (λ honest front records x stands on was. begun_ends front x (move honest front records x stands on was));
   }
 
   -- a crash inside a step that leaves the gate open or closed
-  pub leaves_either : is_idle p ≡ false → is_snapshot p ≡ false → may_open p ≡ true → (IsTrue (disk old.active).honest → LeavesEither (disk old.active) (disk active) old.tail p) → (IsTrue (disk old.active).honest → LeavesFrom (disk old.active) (disk active) old.tail p) → IsInside disk old active
-  leaves_either busy commit opens move from = record {
+  pub leaves_either : is_idle p ≡ false → is_snapshot p ≡ false → may_open p ≡ true → (IsTrue (disk old.active).honest → LeavesEither (disk old.active) (disk active) old.tail p) → IsInside disk old active
+  leaves_either busy commit opens move = record {
     moments = λ s x y keeps.
         moments_placed disk old.which old.active old.spare active old.spare (IsLeftInside old s) (inside_exchanged old s)
         (λ v w one two may.
@@ -163,25 +154,25 @@ module _ {D : Type 0} (disk : D → Disk) (old : StoreSeen D) (active : D) (p : 
         let files = here.files one two in
         subst (λ (t : StoreState). IsLeftInside old t v w) (in_phase s keeps)
         (inside_either disk old (record s { phase = p; broken = false }) here files.front files.is_front v w busy commit opens
-        (move one files.front (records_of s.sealing) v (sym files.is_front.tail_is) files.active may.0) (aside_left (IsSpare old.generation) (closed_spare old.generation) commit files.spare w ((lawful_spare two).only_now w may.1)))) x y;
-    passes = passes_begun commit from;
+        (move one files.front (records_of s.sealing) v (sym files.is_front.tail_is) files.active may.0) (aside_left (IsSpare old.generation) commit files.spare w ((lawful_spare two).only_now w may.1)))) x y;
+    passes = passes_begun commit (λ honest front records x stands on was. begun_either front records x (move honest front records x stands on was));
   }
 
   -- a step that leaves the front keeps files of one vault so
   pub commit_one : (disk active).honest ≡ (disk old.active).honest → is_snapshot p ≡ false → (q : Phase) (broken : Bool) → is_snapshot q ≡ false
-      → (IsTrue (disk old.active).honest → IsNowFrom (disk old.active) (disk active) old.tail old.sealed p)
+      → (IsTrue (disk old.active).honest → (front records : List ℕ) → length front ≡ old.tail → length records ≡ old.sealed → IsOnDisk (disk old.active) p false front records → (x : List ℕ) → (disk active).IsImage x → IsBegun front x)
       → (s : StoreState) → Keeps disk old s → IsOfOneVault disk old → IsOfOneVault disk (record old { active = active; phase = q; broken = broken })
-  commit_one same commit q broken of_q from s keeps one_vault one two =
+  commit_one same commit q broken of_q begun s keeps one_vault one two =
       let here = keeps_in s keeps in
       let was = subst IsTrue same one in
       let files = here.files was two in
       let are = one_in disk old p false is unbroken one_vault was two in
-      let size : old.sealed ≡ length (records_of s.sealing) = here.sealed_bytes ∙ ap (λ (b : Bool). cond b 0 (length (records_of s.sealing))) commit in
-      let after = λ (x : List ℕ) (image : (disk active).IsImage x). from_after disk old (record s { phase = p; broken = false }) here files.front files.is_front are commit (lawful was) x (from was files.front (records_of s.sealing) (sym files.is_front.tail_is) (sym size) files.active x image) in record {
-        least = are.least;
-        headed = λ x image. (after x image).head;
-        leads = λ x vault image leads. (after x image).leads vault leads;
-        beside = spare_still (MayPrecede old.generation are.least) (shut_precedes old.generation are.least) (disk old.spare) old.shut old.rest old.beside p q broken commit of_q are.beside;
+      let size : old.sealed ≡ length (records_of s.sealing) = here.sealed_bytes ∙ ap (λ (b : Bool). cond b 0 (length (records_of s.sealing))) commit in record {
+        base = are.base;
+        based = λ x image.
+            front_based (disk old.active) files.front (settled_reading old (record s { phase = p; broken = false })) files.is_front are.base (lawful was) (begun_on (disk old.active) p false files.front (records_of s.sealing) files.active) are.based x
+            (begun was files.front (records_of s.sealing) (sym files.is_front.tail_is) (sym size) files.active x image);
+        beside = still_aside (MayPrecede old.generation are.base) (disk old.spare) old.shut old.rest p q broken commit of_q are.beside;
       }
 
   -- a step that changes the phase alone, by a call that was counted
@@ -190,10 +181,9 @@ module _ {D : Type 0} (disk : D → Disk) (old : StoreSeen D) (active : D) (p : 
       → IsOneCall (disk old.active) (disk active) made → (IsErr result → IsErr made)
       → (IsTrue (disk old.active).honest → IsMove (disk old.active) (disk active) old.tail old.sealed p q broken)
       → ((s : StoreState) → Keeps disk (record old { active = active; phase = q; broken = broken }) (record s { phase = q; broken = broken }) → IsStep disk old (record old { active = active; phase = q; broken = broken }) result (record s { phase = p; broken = false }))
-      → (IsTrue (disk old.active).honest → IsNowFrom (disk old.active) (disk active) old.tail old.sealed p)
       → IsInside disk old active
       → IsAdvance disk old (record old { active = active; phase = q; broken = broken }) result
-  phase_advance q broken made result busy commit quiet of_q still none moved call failed move step from inside = record {
+  phase_advance q broken made result busy commit quiet of_q still none moved call failed move step inside = record {
     step = λ s keeps.
         subst (λ (t : StoreState). IsStep disk old (record old { active = active; phase = q; broken = broken }) result t) (in_phase s keeps)
         (step s (phase_kept disk old active call.same_honesty s p q broken busy quiet commit of_q move (keeps_in s keeps)));
@@ -201,7 +191,7 @@ module _ {D : Type 0} (disk : D → Disk) (old : StoreSeen D) (active : D) (p : 
     rests = λ idle. absurd (moved idle);
     calls = calls_placed disk old.which old.active old.spare active old.spare result (active_called (disk old.active) (disk old.spare) (disk active) made result call failed);
     moments = inside.moments;
-    one_vault = commit_one call.same_honesty commit q broken of_q from;
+    one_vault = commit_one call.same_honesty commit q broken of_q (λ honest front records stands size on. begun_on (disk active) q broken front records (move honest front records stands size on));
     passes = inside.passes;
   }
 
@@ -213,24 +203,6 @@ pub failed_on : (fault : Fault) → (◌≡◌ {A = Result Advanced Fault} (Err 
 failed_on fault = elim [ inl is ↦ cc | inr is ↦ cc ]
 
 module _ {D : Type 0} (disk : D → Disk) (old : StoreSeen D) (active : D) (unbroken : old.broken ≡ false) (lawful : IsTrue (disk old.active).honest → IsLawful (disk old.active)) (lawful_spare : IsTrue (disk old.spare).honest → IsLawful (disk old.spare)) where
-  -- what a sync leaves, and what the write of a gate leaves
-  synced_from : (p : Phase) → IsTrue (disk old.active).honest → IsSync {E = Fault} (Ok tt) (disk old.active) (disk active) → IsNowFrom (disk old.active) (disk active) old.tail old.sealed p
-  synced_from p honest sync front records stands size on x image = inl (subst (disk old.active).IsImage (sym (sync.durable x image)) (lawful honest).read)
-
-  unsynced_from : (fault : Fault) (p : Phase) → IsSync (Err fault) (disk old.active) (disk active) → IsNowFrom (disk old.active) (disk active) old.tail old.sealed p
-  unsynced_from fault p sync front records stands size on x image = inl (sync.images x image)
-
-  still_from : (p : Phase) → (IsTrue (disk old.active).honest → LeavesSince (disk old.active) (disk active) (disk old.active).IsImage) → IsTrue (disk old.active).honest → LeavesFrom (disk old.active) (disk active) old.tail p
-  still_from p moments honest front records x stands on was = inl ((moments honest).each x was)
-
-  torn_from : ((x : List ℕ) → (disk active).IsImage x → IsOpening old.tail (disk old.active).shown x) → IsNowFrom (disk old.active) (disk active) old.tail old.sealed Bodied
-  torn_from images front records stands size on x image =
-      inr (on.ends, either_one Bodied front records x refl (opening_either (disk old.active) front records x on (subst (λ (n : ℕ). IsOpening n (disk old.active).shown x) (sym stands) (images x image))))
-
-  opening_from : (IsTrue (disk old.active).honest → LeavesSince (disk old.active) (disk active) (IsOpening old.tail (disk old.active).shown)) → IsTrue (disk old.active).honest → LeavesFrom (disk old.active) (disk active) old.tail Bodied
-  opening_from moments honest front records x stands on was =
-      inr (on.ends, either_one Bodied front records x refl (opening_either (disk old.active) front records x on (subst (λ (n : ℕ). IsOpening n (disk old.active).shown x) (sym stands) ((moments honest).each x was))))
-
   -- the moves of the rows
 
   pub settles_body : IsTrue (disk old.active).honest → IsSync {E = Fault} (Ok tt) (disk old.active) (disk active) → IsMove (disk old.active) (disk active) old.tail old.sealed Written Bodied false
@@ -245,8 +217,8 @@ module _ {D : Type 0} (disk : D → Disk) (old : StoreSeen D) (active : D) (unbr
   body_settled is call sync moments =
       subst (λ (b : Bool). IsAdvance disk old (record old { active = active; phase = Bodied; broken = b }) (Ok answers.Moved)) (sym unbroken)
       (phase_advance disk old active Written is unbroken lawful lawful_spare Bodied false (Ok tt) (Ok answers.Moved) refl refl refl refl refl refl (moved_on answers.Moved (λ e. cc) (λ e. cc)) call (λ err. err) (λ honest. settles_body honest (sync honest))
-      (λ s keeps. (refl, keeps)) (λ honest. synced_from Written honest (sync honest))
-      (leaves_front disk old active Written is unbroken lawful lawful_spare refl (λ honest front records x stands on was. on.images x ((moments honest).each x was)) (still_from Written moments)))
+      (λ s keeps. (refl, keeps))
+      (leaves_front disk old active Written is unbroken lawful lawful_spare refl (λ honest front records x stands on was. on.images x ((moments honest).each x was))))
 
   -- the body's sync failed
   pub body_left : (fault : Fault) → old.phase ≡ Written → IsOneCall {A = Unit {0}} {E = Fault} (disk old.active) (disk active) (Err fault) → (IsTrue (disk old.active).honest → IsSync (Err fault) (disk old.active) (disk active))
@@ -254,8 +226,8 @@ module _ {D : Type 0} (disk : D → Disk) (old : StoreSeen D) (active : D) (unbr
   body_left fault is call sync moments =
       subst (λ (q : Phase). IsAdvance disk old (record old { active = active; phase = q; broken = true }) (Err fault)) (sym is)
       (phase_advance disk old active Written is unbroken lawful lawful_spare Written true (Err fault) (Err fault) refl refl refl refl refl refl (failed_on fault) call (λ err. err) (λ honest. body_unsettled fault (sync honest))
-      (λ s keeps. (refl, λ e. cc, keeps)) (λ honest. unsynced_from fault Written (sync honest))
-      (leaves_front disk old active Written is unbroken lawful lawful_spare refl (λ honest front records x stands on was. on.images x ((moments honest).each x was)) (still_from Written moments)))
+      (λ s keeps. (refl, λ e. cc, keeps))
+      (leaves_front disk old active Written is unbroken lawful lawful_spare refl (λ honest front records x stands on was. on.images x ((moments honest).each x was))))
 
   pub opens_gate : IsWrite {E = Fault} old.tail (1 ∷ []) (Ok tt) (disk old.active) (disk active) → (disk active).shown ≡ set (disk old.active).shown old.tail 1
       → ((x : List ℕ) → (disk active).IsImage x → IsOpening old.tail (disk old.active).shown x) → ((x : List ℕ) → (disk active).IsImage x → SameBut old.tail (disk active).shown x)
@@ -279,16 +251,16 @@ module _ {D : Type 0} (disk : D → Disk) (old : StoreSeen D) (active : D) (unbr
   gate_opened is call wrote shown images same moments =
       subst (λ (b : Bool). IsAdvance disk old (record old { active = active; phase = Opening; broken = b }) (Ok answers.Moved)) (sym unbroken)
       (phase_advance disk old active Bodied is unbroken lawful lawful_spare Opening false (Ok tt) (Ok answers.Moved) refl refl refl refl refl refl (moved_on answers.Moved (λ e. cc) (λ e. cc)) call (λ err. err) (λ honest. opens_gate (wrote honest) (shown honest) (images honest) (same honest))
-      (λ s keeps. (refl, keeps)) (λ honest. torn_from (images honest))
-      (leaves_either disk old active Bodied is unbroken lawful lawful_spare refl refl refl (opening_inside moments) (opening_from moments)))
+      (λ s keeps. (refl, keeps))
+      (leaves_either disk old active Bodied is unbroken lawful lawful_spare refl refl refl (opening_inside moments)))
 
   -- the gate's write failed
   pub gate_left : (fault : Fault) → old.phase ≡ Bodied → IsOneCall {A = Unit {0}} {E = Fault} (disk old.active) (disk active) (Err fault) → (IsTrue (disk old.active).honest → (x : List ℕ) → (disk active).IsImage x → IsOpening old.tail (disk old.active).shown x)
       → (IsTrue (disk old.active).honest → LeavesSince (disk old.active) (disk active) (IsOpening old.tail (disk old.active).shown)) → IsAdvance disk old (record old { active = active; phase = Opening; broken = true }) (Err fault)
   gate_left fault is call images moments =
       phase_advance disk old active Bodied is unbroken lawful lawful_spare Opening true (Err fault) (Err fault) refl refl refl refl refl refl (failed_on fault) call (λ err. err) (λ honest. gate_torn (images honest))
-      (λ s keeps. (refl, λ e. cc, keeps)) (λ honest. torn_from (images honest))
-      (leaves_either disk old active Bodied is unbroken lawful lawful_spare refl refl refl (opening_inside moments) (opening_from moments))
+      (λ s keeps. (refl, λ e. cc, keeps))
+      (leaves_either disk old active Bodied is unbroken lawful lawful_spare refl refl refl (opening_inside moments))
 
   pub gate_unsettled : (fault : Fault) → IsSync (Err fault) (disk old.active) (disk active) → IsMove (disk old.active) (disk active) old.tail old.sealed Opening Opening true
   gate_unsettled fault sync front records stands size on = λ x image. on.images x (sync.images x image)
@@ -302,8 +274,8 @@ module _ {D : Type 0} (disk : D → Disk) (old : StoreSeen D) (active : D) (unbr
   gate_still_open fault is call sync moments =
       subst (λ (q : Phase). IsAdvance disk old (record old { active = active; phase = q; broken = true }) (Err fault)) (sym is)
       (phase_advance disk old active Opening is unbroken lawful lawful_spare Opening true (Err fault) (Err fault) refl refl refl refl refl refl (failed_on fault) call (λ err. err) (λ honest. gate_unsettled fault (sync honest))
-      (λ s keeps. (refl, λ e. cc, keeps)) (λ honest. unsynced_from fault Opening (sync honest))
-      (leaves_either disk old active Opening is unbroken lawful lawful_spare refl refl refl (gate_inside moments) (still_from Opening moments)))
+      (λ s keeps. (refl, λ e. cc, keeps))
+      (leaves_either disk old active Opening is unbroken lawful lawful_spare refl refl refl (gate_inside moments)))
 
   -- what the sync of the gate makes of the disk
   abbrev pub Settles : Type 0
@@ -326,22 +298,20 @@ module _ {D : Type 0} (disk : D → Disk) (old : StoreSeen D) (active : D) (unbr
           version = ap (λ (p : Phase). cond (is_snapshot p) current_version old.version) (sym is);
           generation = ap (λ (p : Phase). cond (is_snapshot p) (old.generation + 1) old.generation) (sym is);
           tail = let same : tail ≡ old.tail + (5 + old.sealed) = omega (arith, tail_is) in same ∙ ap (λ (p : Phase). cond (is_snapshot p) (length old.rest) (old.tail + (5 + old.sealed))) (sym is);
-          journal_length = let same : journal_length ≡ old.journal_length + (5 + old.sealed) = omega (arith, journal_is) in same ∙ ap (λ (p : Phase). cond (is_snapshot p) old.copied (old.journal_length + (5 + old.sealed))) (sym is);
+          journal_length = let same : journal_length ≡ old.journal_length + (5 + old.sealed) = omega (arith, journal_is) in same ∙ ap (λ (p : Phase). cond (is_snapshot p) 0 (old.journal_length + (5 + old.sealed))) (sym is);
           buffer = ap (λ (b : Bool). cond (b && not old.broken) [] old.buffer) (sym (ap is_idle is));
-          beside = refl;
-          copied = ap (λ (p : Phase). cond (is_snapshot p) 0 old.copied) (sym is);
         };
         rests = λ idle. absurd (moved_on answers.Settled (λ e. cc) (λ e. cc) idle);
         calls = calls_placed disk old.which old.active old.spare active old.spare (Ok answers.Settled) (active_called (disk old.active) (disk old.spare) (disk active) (Ok tt) (Ok answers.Settled) call (λ err. err));
         moments = (inside moments).moments;
         one_vault =
             commit_one disk old active Opening is unbroken lawful lawful_spare call.same_honesty refl Idle false refl
-            (λ honest. synced_from Opening honest (sync honest));
+            (λ honest front records stands size on x image. begun_shorter front (frame_bytes records) x (begun_on (disk active) Idle false (front ++ frame_bytes records) [] (settles_gate honest (sync honest) front records stands on) x image));
         passes = (inside moments).passes;
       })
     where
       inside : (IsTrue (disk old.active).honest → LeavesSince (disk old.active) (disk active) (disk old.active).IsImage) → IsInside disk old active
-      inside moments = leaves_either disk old active Opening is unbroken lawful lawful_spare refl refl refl (gate_inside moments) (still_from Opening moments)
+      inside moments = leaves_either disk old active Opening is unbroken lawful lawful_spare refl refl refl (gate_inside moments)
 
   -- what the write of the body makes of the disk
   abbrev pub Writes : Bool → Type 0
@@ -359,12 +329,12 @@ module _ {D : Type 0} (disk : D → Disk) (old : StoreSeen D) (active : D) (unbr
   body_inside moments honest front records x stands on was = behind_ends (disk old.active) front x on (subst (λ (n : ℕ). IsBehind n (disk old.active) x) (sym stands) ((moments honest).each x was))
 
   body_left_inside : old.phase ≡ Idle → (IsTrue (disk old.active).honest → LeavesSince (disk old.active) (disk active) (IsBehind old.tail (disk old.active))) → IsInside disk old active
-  body_left_inside is moments = leaves_front disk old active Idle is unbroken lawful lawful_spare refl (body_inside moments) (λ honest front records x stands on was. inr (on.ends, inl (body_inside moments honest front records x stands on was)))
+  body_left_inside is moments = leaves_front disk old active Idle is unbroken lawful lawful_spare refl (body_inside moments)
 
   body_one : (is : old.phase ≡ Idle) (broken : Bool) → (disk active).honest ≡ (disk old.active).honest → (IsTrue (disk old.active).honest → Writes broken) → (s : StoreState) → Keeps disk old s → IsOfOneVault disk old
       → IsOfOneVault disk (record old { active = active; phase = Written; broken = broken })
   body_one is broken same writes =
-      commit_one disk old active Idle is unbroken lawful lawful_spare same refl Written broken refl (λ honest front records stands size on x image. inr (on.ends, inl (leaves_in (disk active) Written broken front old.buffer (writes honest front stands on) x image)))
+      commit_one disk old active Idle is unbroken lawful lawful_spare same refl Written broken refl (λ honest front records stands size on. begun_on (disk active) Written broken front old.buffer (writes honest front stands on))
 
   abbrev sealed_seen : Bool → StoreSeen D
   sealed_seen broken = record old { active = active; buffer = []; sealed = length old.buffer; phase = Written; broken = broken }
@@ -421,7 +391,7 @@ module _ {D : Type 0} (disk : D → Disk) (old : StoreSeen D) (active : D) (unbr
     passes = (body_left_inside is moments).passes;
   }
 
-pub no_effects : (effects : List Effect) (bytes : List ℕ) → AreRecordsOf effects bytes → length bytes ≡ 0 → effects ≡ []
+no_effects : (effects : List Effect) (bytes : List ℕ) → AreRecordsOf effects bytes → length bytes ≡ 0 → effects ≡ []
 no_effects [] bytes records none = refl
 no_effects (effect ∷ rest) bytes records none = absurd (omega (arith, none, ap length records.whole, length-append (record_of effect) (records_of rest), record_some effect))
 
@@ -436,7 +406,7 @@ module _ {D : Type 0} (disk : D → Disk) (store : StoreSeen D) (is : store.phas
     step = λ s keeps.
         subst (λ (t : StoreState). IsStep disk store store (Ok answers.Idle) t) (in_phase disk store store.active Idle is unbroken lawful lawful_spare s keeps)
         (rest_step s s.buffer (no_effects s.buffer store.buffer keeps.buffer none) (keeps_in disk store store.active Idle is unbroken lawful lawful_spare s keeps));
-    numbers = record { which = refl; version = refl; generation = refl; tail = omega arith; journal_length = omega arith; buffer = still; beside = refl; copied = refl };
+    numbers = record { which = refl; version = refl; generation = refl; tail = omega arith; journal_length = omega arith; buffer = still };
     rests = λ idle. refl;
     calls = none_called (disk (first_of store)) (disk (second_of store)) (Ok answers.Idle) (λ err. absurd (search rules));
     moments = unmoved disk store lawful lawful_spare;

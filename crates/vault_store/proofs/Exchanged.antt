@@ -1,5 +1,5 @@
 -- The first call of a snapshot, and its last step, which exchanges the files.
-use Rattle.std.proofs.Common.{◌≡◌, inr, ℕ, ◌+◌, ◌<◌, ◌^◌, IsTrue, Bool, true, false, cond, not, ◌&&◌, List, [], ◌∷◌, ◌++◌, length, Some, refl, sym, ◌∙◌, ap, subst, arith, length-append, Ok}
+use Rattle.std.proofs.Common.{◌≡◌, inr, ℕ, ◌+◌, ◌<◌, ◌^◌, IsTrue, Bool, false, cond, not, ◌&&◌, List, [], ◌∷◌, ◌++◌, length, Some, refl, sym, ◌∙◌, ap, subst, arith, length-append, Ok}
 use Rattle.std.proofs.lemmas.Bool.{false≢true}
 use Rattle.vault_model.specs.Said.{Effect}
 use Rattle.vault_state.specs.Vault.{Vault}
@@ -18,27 +18,22 @@ use Rattle.vault_store.specs.Phases.{is_idle, is_snapshot}
 use Rattle.vault_store.specs.State.{StoreState, started}
 use Rattle.vault_store.specs.OnDisk.{IsIdle}
 use Rattle.vault_store.specs.Spares.{IsAside, IsSpareIn, IsSpareOn}
-use Rattle.vault_store.specs.declared.phase.Renewal.TheVariants as renewals
-use Rattle.vault_store.specs.Beside.{spare_phase}
-use Rattle.vault_store.specs.Seen.{StoreSeen, of_file, other, first_of, second_of, Keeps, settled_reading, counted_reading, started_seen}
+use Rattle.vault_store.specs.Seen.{StoreSeen, of_file, other, first_of, second_of, Keeps, IsRenewal, settled_reading, started_seen}
 use Rattle.vault_store.specs.Sound.{IsReached, IsRest, IsActive, IsSoundStore}
 use Rattle.vault_store.specs.Companions.{MayPrecede, IsOfOneVault}
 use Rattle.vault_store.specs.Earlier.{IsEarlier}
 use Rattle.vault_store.specs.Step.{IsAtMostOneCall, IsStep, MayBeLeft, IsAdvance}
 use Rattle.vault_store.proofs.Advances.{moved_on}
-use Rattle.vault_store.specs.TwoVaults.{LeadsTo}
-use Rattle.vault_store.proofs.Asides.{torn_spare, length-behind}
-use Rattle.vault_store.proofs.Besides.{alone_is, not_beside}
-use Rattle.vault_store.proofs.NewFiles.{its_front, its_bytes, its_is_front}
+use Rattle.vault_store.proofs.Asides.{torn_spare, renewed_front, length-behind}
 use Rattle.vault_format.proofs.Named.{spelled_stays}
-use Rattle.vault_store.proofs.Companions.{one_in, torn_precedes, after_led}
-use Rattle.vault_store.proofs.Growing.{grown, earlier_same}
+use Rattle.vault_store.proofs.Companions.{one_in, torn_precedes}
+use Rattle.vault_store.proofs.Growing.{grown}
 use Rattle.vault_store.proofs.TwoVaults.{one_led}
-use Rattle.vault_store.proofs.Passes.{spare_alone}
+use Rattle.vault_store.proofs.Passes.{head_based}
 use Rattle.vault_store.proofs.Placed.{calls_placed}
 use Rattle.vault_store.proofs.Renewals.{idle_leaves, to_active}
 use Rattle.vault_store.proofs.Rests.{rest_kept}
-use Rattle.vault_store.proofs.RenewalRows.{IsInsideSpare, spare_called, leaves_renewed, of_column, snap_phase, snap_keeps}
+use Rattle.vault_store.proofs.Renewed.{IsInsideSpare, spare_called, leaves_renewed, snap_phase, snap_keeps}
 use Rattle.vault_format.proofs.Rights.{holds_head, head_open, one_generation}
 use Rattle.vault_format.proofs.Short.{spelled_short}
 
@@ -51,19 +46,11 @@ exchanged Second one two = refl
 pub noted_spelled : {D : Type 0} (disk : D → Disk) (store : StoreSeen D) (s : StoreState) → Keeps disk store s → HasSnapshot s.noted
 noted_spelled disk store s keeps = spelled_stays s.sealed s.noted s.buffer (spelled_stays s.settled s.sealed s.sealing keeps.spelled keeps.sealing keeps.sealed) keeps.buffer.each keeps.noted
 
-module _ {D : Type 0} (disk : D → Disk) (old : StoreSeen D) (v : Vault) (is : old.phase ≡ Idle) (alone : old.beside ≡ renewals.Nothing) (unbroken : old.broken ≡ false) (fits : old.generation + 1 < 2 ^ 64) where
-  -- the spare is as it was
-  pub started_spare : (MayStand : List ℕ → Type 0) → IsSpareOn MayStand (disk old.spare) (spare_phase Idle old.beside) false old.shut old.rest → IsSpareOn MayStand (disk old.spare) (spare_phase Start old.beside) false old.shut (behind_gate (old.generation + 1) v)
-  started_spare MayStand on =
-      subst (λ (p : Phase). IsSpareOn MayStand (disk old.spare) p false old.shut (behind_gate (old.generation + 1) v)) (sym (alone_is old.beside Start alone))
-      (subst (λ (p : Phase). IsSpareOn MayStand (disk old.spare) p false old.shut old.rest) (alone_is old.beside Idle alone) on)
-
+module _ {D : Type 0} (disk : D → Disk) (old : StoreSeen D) (v : Vault) (is : old.phase ≡ Idle) (unbroken : old.broken ≡ false) (fits : old.generation + 1 < 2 ^ 64) where
   -- a snapshot is begun
   pub started_sound : HasSnapshot v → IsSoundStore disk old → IsSoundStore disk (started_seen old v)
   started_sound has sound = record {
-    reached =
-        subst (λ (p : Phase). IsReached p old.generation (behind_gate (old.generation + 1) v)) (sym (alone_is old.beside Start alone))
-        (record { front = mark ++ in_four (version_number current_version) ++ in_eight (old.generation + 1) ++ snapshot_bytes current_version v; ends = refl; fits = fits });
+    reached = record { front = mark ++ in_four (version_number current_version) ++ in_eight (old.generation + 1) ++ snapshot_bytes current_version v; ends = refl; fits = fits };
     sealed_fits = sound.sealed_fits;
     bounded = tt;
     inside = sound.inside;
@@ -73,26 +60,19 @@ module _ {D : Type 0} (disk : D → Disk) (old : StoreSeen D) (v : Vault) (is : 
         subst (λ (p : Phase). IsActive (disk old.active) old.tail old.sealed p false) is (subst (λ (b : Bool). IsActive (disk old.active) old.tail old.sealed old.phase b) unbroken (sound.active honest)) in
         subst (λ (b : Bool). IsActive (disk old.active) old.tail old.sealed Start b) (sym unbroken) (record { front = was.front; records = was.records; stands = was.stands; size = was.size; on_disk = was.on_disk });
     spare = λ honest.
-        let was : IsSpareOn (λ x. Unit {0}) (disk old.spare) (spare_phase Idle old.beside) false old.shut old.rest =
-        subst (λ (p : Phase). IsSpareOn (λ x. Unit {0}) (disk old.spare) (spare_phase p old.beside) false old.shut old.rest) is (subst (λ (b : Bool). IsSpareOn (λ x. Unit {0}) (disk old.spare) (spare_phase old.phase old.beside) b old.shut old.rest) unbroken (sound.spare honest)) in
-        subst (λ (b : Bool). IsSpareOn (λ x. Unit {0}) (disk old.spare) (spare_phase Start old.beside) b old.shut (behind_gate (old.generation + 1) v)) (sym unbroken) (started_spare (λ x. Unit {0}) was);
-    alone = λ snapshot. alone;
-    bare = λ b. refl;
-    few = omega arith;
-    behind = omega arith;
-    holds = omega arith;
-    laned = sound.laned;
+        let was : IsSpareIn (λ x. Unit {0}) (disk old.spare) Idle old.shut old.rest =
+        subst (λ (p : Phase). IsSpareIn (λ x. Unit {0}) (disk old.spare) p old.shut old.rest) is (subst (λ (b : Bool). IsSpareOn (λ x. Unit {0}) (disk old.spare) old.phase b old.shut old.rest) unbroken (sound.spare honest)) in
+        subst (λ (b : Bool). IsSpareOn (λ x. Unit {0}) (disk old.spare) Start b old.shut (behind_gate (old.generation + 1) v)) (sym unbroken) was;
   }
 
   -- files of one vault stay so
   pub started_one : IsOfOneVault disk old → IsOfOneVault disk (started_seen old v)
   started_one one_vault one two =
       let are = one_in disk old Idle false is unbroken one_vault one two in record {
-        least = are.least;
-        headed = are.headed;
-        leads = are.leads;
+        base = are.base;
+        based = are.based;
         beside =
-            subst (λ (b : Bool). IsSpareOn (MayPrecede old.generation are.least) (disk old.spare) (spare_phase Start old.beside) b old.shut (behind_gate (old.generation + 1) v)) (sym unbroken) (started_spare (MayPrecede old.generation are.least) are.beside);
+            subst (λ (b : Bool). IsSpareOn (MayPrecede old.generation are.base) (disk old.spare) Start b old.shut (behind_gate (old.generation + 1) v)) (sym unbroken) are.beside;
       }
 
   started_in : (s : StoreState) → Keeps disk old (record s { phase = Idle; broken = false }) → s.noted ≡ v → Keeps disk (record (started_seen old v) { broken = false }) (started (record s { phase = Idle; broken = false }))
@@ -108,21 +88,8 @@ module _ {D : Type 0} (disk : D → Disk) (old : StoreSeen D) (v : Vault) (is : 
     sealed = subst (λ (w : Vault). applied w s.buffer ≡ Some s.noted) (sym settled_is) keeps.noted;
     buffer = record { each = tt; whole = refl };
     noted = refl;
-    frozen = v;
-    since = [];
-    alone = λ snapshot. alone;
-    renewal = λ under. record {
-      spelled = subst HasSnapshot noted (noted_spelled disk old (record s { phase = Idle; broken = false }) keeps);
-      fits = fits;
-      each = tt;
-      leads = ap (λ (w : Vault). Some w) (sym noted);
-      size = omega (arith, length-behind (old.generation + 1) v);
-    };
-    all = λ snapshot. refl;
-    part = λ under. not_beside old.beside alone under;
-    within = λ under. not_beside old.beside alone under;
-    whole = λ under both. refl;
-    files = λ one two. let files = keeps.files one two in record { front = files.front; is_front = files.is_front; active = files.active; spare = started_spare (IsSpare old.generation) files.spare; follows = λ under. not_beside old.beside alone under };
+    renewal = λ snapshot. record { spelled = noted_spelled disk old (record s { phase = Idle; broken = false }) keeps; fits = fits; bytes = ap (λ (w : Vault). behind_gate (old.generation + 1) w) (sym noted) };
+    files = λ one two. let files = keeps.files one two in record { front = files.front; is_front = files.is_front; active = files.active; spare = files.spare };
   }
     where
       settled_is : s.settled ≡ s.sealed
@@ -149,15 +116,11 @@ module _ {D : Type 0} (disk : D → Disk) (old : StoreSeen D) (spare : D) (unbro
     version = current_version;
     generation = old.generation + 1;
     tail = length old.rest;
-    journal_length = old.copied;
+    journal_length = 0;
     phase = Idle;
     broken = broken;
     shut = false;
     rest = [];
-    beside = old.beside;
-    from = old.from;
-    copied = 0;
-    lane = old.lane;
   }
 
   was_honest : IsTrue (disk spare).honest → IsTrue (disk old.spare).honest
@@ -165,10 +128,10 @@ module _ {D : Type 0} (disk : D → Disk) (old : StoreSeen D) (spare : D) (unbro
 
   pub exchanged_sound : IsSoundStore disk old → IsSoundStore disk (exchanged_seen false)
   exchanged_sound sound = record {
-    reached = subst (λ (p : Phase). IsReached p (old.generation + 1) []) (sym (alone_is old.beside Idle alone)) tt;
+    reached = tt;
     sealed_fits = omega arith;
-    bounded = λ some. omega (arith, sound.short, sound.few);
-    inside = sound.holds;
+    bounded = λ some. omega (arith, sound.short);
+    inside = omega arith;
     short = omega arith;
     active = λ honest. record {
       front = 1 ∷ rest.front;
@@ -177,28 +140,16 @@ module _ {D : Type 0} (disk : D → Disk) (old : StoreSeen D) (spare : D) (unbro
       size = refl;
       on_disk =
           to_active (disk old.spare) (disk spare) old.rest (1 ∷ rest.front) (ap (λ (l : List ℕ). 1 ∷ l) (sym rest.ends)) (lawful_spare (was_honest honest))
-          (of_column old (λ x. Unit {0}) (disk old.spare) SnapOpening alone
-          (subst (λ (p : Phase). IsSpareOn (λ x. Unit {0}) (disk old.spare) (spare_phase p old.beside) false old.shut old.rest) is (subst (λ (b : Bool). IsSpareOn (λ x. Unit {0}) (disk old.spare) (spare_phase old.phase old.beside) b old.shut old.rest) unbroken (sound.spare (was_honest honest)))))
-          (sync (was_honest honest));
+          (subst (λ (p : Phase). IsSpareIn (λ x. Unit {0}) (disk old.spare) p old.shut old.rest) is (subst (λ (b : Bool). IsSpareOn (λ x. Unit {0}) (disk old.spare) old.phase b old.shut old.rest) unbroken (sound.spare (was_honest honest)))) (sync (was_honest honest));
     };
     spare = λ honest.
         let was : IsActive (disk old.active) old.tail old.sealed SnapOpening false =
         subst (λ (p : Phase). IsActive (disk old.active) old.tail old.sealed p false) is (subst (λ (b : Bool). IsActive (disk old.active) old.tail old.sealed old.phase b) unbroken (sound.active honest)) in
-        subst (λ (p : Phase). IsSpareOn (λ x. Unit {0}) (disk old.active) p false false []) (sym (alone_is old.beside Idle alone))
-        (record { settled = was.on_disk.settled; stands = tt; closed = λ e. absurd (false≢true e); torn = λ e y torn. tt });
-    alone = λ snapshot. alone;
-    bare = λ b. refl;
-    few = omega arith;
-    behind = omega arith;
-    holds = omega arith;
-    laned = sound.laned;
+        record { settled = was.on_disk.settled; stands = tt; closed = λ e. absurd (false≢true e); torn = λ e y torn. tt };
   }
     where
-      alone : old.beside ≡ renewals.Nothing
-      alone = sound.alone (ap is_snapshot is)
-
       rest : IsRest old.generation old.rest
-      rest = subst (λ (p : Phase). IsReached p old.generation old.rest) (alone_is old.beside SnapOpening alone) (subst (λ (p : Phase). IsReached (spare_phase p old.beside) old.generation old.rest) is sound.reached)
+      rest = subst (λ (p : Phase). IsReached p old.generation old.rest) is sound.reached
 
   -- the old file stands beside the new one
   beside : (front : List ℕ) (s : StoreState) → IsFront front (settled_reading old s) → IsIdle (disk old.active) front → IsAside (IsSpare (old.generation + 1)) (disk old.active) false
@@ -215,41 +166,25 @@ module _ {D : Type 0} (disk : D → Disk) (old : StoreSeen D) (spare : D) (unbro
       stands : IsSpare (old.generation + 1) (disk old.active).shown
       stands = inr (old.generation, omega arith, (old.version, head))
 
-  -- the new file is the active one
-  now_active : (s : StoreState) (keeps : Keeps disk old (record s { phase = SnapOpening; broken = false })) (one : IsTrue (disk old.active).honest) (two : IsTrue (disk spare).honest)
-      → IsIdle (disk spare) (its_front disk old (record s { phase = SnapOpening; broken = false }) keeps refl (one, was_honest two))
-  now_active s keeps one two =
-      to_active (disk old.spare) (disk spare) old.rest (its_front disk old (record s { phase = SnapOpening; broken = false }) keeps refl (one, was_honest two)) (its_bytes disk old (record s { phase = SnapOpening; broken = false }) keeps refl (one, was_honest two)) (lawful_spare (was_honest two))
-      (spare_alone disk old s SnapOpening refl keeps one (was_honest two)) (sync (was_honest two))
-
-  leads_now : (s : StoreState) (keeps : Keeps disk old (record s { phase = SnapOpening; broken = false })) (one : IsTrue (disk old.active).honest) → IsTrue (disk spare).honest → (x : List ℕ) → (disk spare).IsImage x → LeadsTo (old.generation + 1) x s.sealed
-  leads_now s keeps one two x image = (
-    counted_reading true old (record s { phase = SnapOpening; broken = false }),
-    record {
-      front = its_front disk old (record s { phase = SnapOpening; broken = false }) keeps refl (one, was_honest two);
-      is_front = its_is_front disk old (record s { phase = SnapOpening; broken = false }) keeps refl (one, was_honest two);
-      ends = idle_leaves (disk spare) (its_front disk old (record s { phase = SnapOpening; broken = false }) keeps refl (one, was_honest two)) [] (now_active s keeps one two) x image;
-    },
-    refl,
-    refl,
-  )
-
   exchanged_kept : (s : StoreState) → Keeps disk old (record s { phase = SnapOpening; broken = false })
       → Keeps disk (exchanged_seen false) (record { settled = s.sealed; sealed = s.sealed; noted = s.noted; sealing = []; buffer = s.buffer; phase = Idle; broken = false })
   exchanged_kept s keeps =
-      rest_kept disk (exchanged_seen false) s.sealed s.noted s.buffer refl (keeps.alone refl) refl refl (spelled_stays s.settled s.sealed s.sealing keeps.spelled keeps.sealing keeps.sealed) keeps.buffer keeps.noted
+      rest_kept disk (exchanged_seen false) s.sealed s.noted s.buffer refl refl refl renewal.spelled keeps.buffer keeps.noted
       (λ one two.
       let files = keeps.files two (was_honest one) in record {
-        front = its_front disk old (record s { phase = SnapOpening; broken = false }) keeps refl (two, was_honest one);
-        is_front = its_is_front disk old (record s { phase = SnapOpening; broken = false }) keeps refl (two, was_honest one);
-        active = now_active s keeps two one;
-        spare =
-            subst (λ (p : Phase). IsSpareOn (IsSpare (old.generation + 1)) (disk old.active) p false false []) (sym (alone_is old.beside Idle (keeps.alone refl)))
-            (beside files.front (record s { phase = SnapOpening; broken = false }) files.is_front files.active);
-        follows = λ is. not_beside old.beside (keeps.alone refl) is;
+        front = current_head (old.generation + 1) ++ snapshot_bytes current_version s.sealed;
+        is_front =
+            subst (λ (n : ℕ). IsFront (current_head (old.generation + 1) ++ snapshot_bytes current_version s.sealed) (record { vault = s.sealed; version = current_version; generation = old.generation + 1; tail = n; journal_length = 0 })) (sym (ap length renewal.bytes ∙ length-behind (old.generation + 1) s.sealed))
+            (renewed_front (old.generation + 1) s.sealed renewal.spelled (omega arith) renewal.fits);
+        active =
+            to_active (disk old.spare) (disk spare) old.rest (current_head (old.generation + 1) ++ snapshot_bytes current_version s.sealed) (ap (λ (l : List ℕ). 1 ∷ l) (sym renewal.bytes)) (lawful_spare (was_honest one)) files.spare (sync (was_honest one));
+        spare = beside files.front (record s { phase = SnapOpening; broken = false }) files.is_front files.active;
       })
+    where
+      renewal : IsRenewal old.generation s.sealed old.rest
+      renewal = keeps.renewal refl
 
-  -- the old file, which leads to an earlier state of what the new one leads to, stands beside that
+  -- the old file, which leads to an earlier state of the new one's snapshot, stands beside that
   exchanged_one : (s : StoreState) → Keeps disk old (record s { phase = SnapOpening; broken = false }) → IsOfOneVault disk (exchanged_seen false)
   exchanged_one s keeps one two =
       let files = keeps.files two (was_honest one) in
@@ -261,19 +196,25 @@ module _ {D : Type 0} (disk : D → Disk) (old : StoreSeen D) (spare : D) (unbro
         omega (arith, same),
         λ v leads later. later
             (subst (λ (w : Vault). IsEarlier w s.sealed) (one_led (disk old.active).shown old.generation older s.settled v (settled_reading old s, holds, refl, refl) leads) (grown s.settled s.sealed s.sealing keeps.sealed)),
-      ) in
-      let after = λ (x : List ℕ) (image : (disk spare).IsImage x). after_led (old.generation + 1) s.sealed s.sealed x (leads_now s keeps two one x image) (earlier_same s.sealed) in record {
-        least = s.sealed;
-        headed = λ x image. (after x image).head;
-        leads = λ x vault image leads. (after x image).leads vault leads;
-        beside =
-            subst (λ (p : Phase). IsSpareOn (MayPrecede (old.generation + 1) s.sealed) (disk old.active) p false false []) (sym (alone_is old.beside Idle (keeps.alone refl))) (record {
-              settled = files.active.settled;
-              stands = stands;
-              closed = λ e. absurd (false≢true e);
-              torn = λ e y. torn_precedes (old.generation + 1) s.sealed (disk old.active).shown y stands (λ closed. closed.shut (head_open (disk old.active).shown old.generation head).gate);
-            });
+      ) in record {
+        base = s.sealed;
+        based = λ x image.
+            head_based (old.generation + 1) s.sealed x renewal.spelled (omega arith) renewal.fits
+            (idle_leaves (disk spare) new_front []
+            (to_active (disk old.spare) (disk spare) old.rest new_front (ap (λ (l : List ℕ). 1 ∷ l) (sym renewal.bytes)) (lawful_spare (was_honest one)) files.spare (sync (was_honest one))) x image);
+        beside = record {
+          settled = files.active.settled;
+          stands = stands;
+          closed = λ e. absurd (false≢true e);
+          torn = λ e y. torn_precedes (old.generation + 1) s.sealed (disk old.active).shown y stands (λ closed. closed.shut (head_open (disk old.active).shown old.generation head).gate);
+        };
       }
+    where
+      renewal : IsRenewal old.generation s.sealed old.rest
+      renewal = keeps.renewal refl
+
+      new_front : List ℕ
+      new_front = current_head (old.generation + 1) ++ snapshot_bytes current_version s.sealed
 
   -- a crash inside leaves the old file, and the new one with its head gate open or closed
   exchanged_inside : (IsTrue (disk old.spare).honest → LeavesSince (disk old.spare) (disk spare) (disk old.spare).IsImage) → IsInsideSpare disk old spare
@@ -298,10 +239,8 @@ module _ {D : Type 0} (disk : D → Disk) (old : StoreSeen D) (spare : D) (unbro
           version = ap (λ (p : Phase). cond (is_snapshot p) current_version old.version) (sym is);
           generation = ap (λ (p : Phase). cond (is_snapshot p) (old.generation + 1) old.generation) (sym is);
           tail = ap (λ (p : Phase). cond (is_snapshot p) (length old.rest) (old.tail + (5 + old.sealed))) (sym is);
-          journal_length = ap (λ (p : Phase). cond (is_snapshot p) old.copied (old.journal_length + (5 + old.sealed))) (sym is);
+          journal_length = ap (λ (p : Phase). cond (is_snapshot p) 0 (old.journal_length + (5 + old.sealed))) (sym is);
           buffer = ap (λ (b : Bool). cond (b && not old.broken) [] old.buffer) (sym (ap is_idle is));
-          beside = refl;
-          copied = ap (λ (p : Phase). cond (is_snapshot p) 0 old.copied) (sym is);
         };
         rests = λ idle. absurd (moved_on answers.Settled (λ e. cc) (λ e. cc) idle);
         calls =

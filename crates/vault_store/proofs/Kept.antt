@@ -1,6 +1,5 @@
 -- What a store keeps, from step to step.
-use Rattle.std.proofs.Common.{◌≡◌, ◌≢◌, ℕ, ◌+◌, ◌≤◌, IsTrue, Bool, false, cond, List, [], ◌∷◌, ◌++◌, length, take, Some, refl, sym, ◌∙◌, ap, subst, arith, append_assoc, length-append}
-use Rattle.std.proofs.lemmas.List.{append-nil, take-append-le}
+use Rattle.std.proofs.Common.{◌≡◌, ◌≢◌, ℕ, ◌+◌, ◌≤◌, IsTrue, Bool, false, cond, List, [], ◌++◌, length, Some, refl, sym, ◌∙◌, ap, subst, arith}
 use Rattle.std.proofs.lemmas.Bool.{false≢true}
 use Rattle.vault_model.specs.Said.{Effect}
 use Rattle.vault_state.specs.Vault.{Vault}
@@ -9,16 +8,15 @@ use Rattle.vault_device.specs.Disk.{Disk}
 use Rattle.vault_journal.specs.Spelling.{record_of, records_of, HasRecord}
 use Rattle.vault_store.specs.declared.phase.Phase.{Phase}
 use Rattle.vault_store.specs.declared.phase.Phase.TheVariants.{Idle, Written, Opening}
-use Rattle.vault_format.specs.Files.{most_records, frame_bytes, frame_of, frames_bytes, IsFrame, IsSpare, applied}
+use Rattle.vault_format.specs.Files.{most_records, frame_bytes, IsFrame, IsSpare, applied}
 use Rattle.vault_store.specs.Phases.{is_idle, is_snapshot}
 use Rattle.vault_store.specs.State.{StoreState, with_effect}
 use Rattle.vault_store.specs.OnDisk.{IsOnDisk}
-use Rattle.vault_store.specs.Seen.{StoreSeen, Keeps, settled_reading, frame_under_way}
-use Rattle.vault_store.specs.Beside.{renewed_bytes}
-use Rattle.vault_store.proofs.Asides.{closed_spare}
-use Rattle.vault_store.proofs.Besides.{renews_still, spare_still, some_under_way, none_under_way, frames_joined}
+use Rattle.vault_store.specs.Seen.{StoreSeen, Keeps, settled_reading}
+use Rattle.vault_store.proofs.Asides.{still_aside}
 use Rattle.vault_format.proofs.Named.{spelled_stays}
-use Rattle.vault_format.proofs.Frames.{applied_more, records_more, longer_front, each_more, frames_more, length-frame}
+use Rattle.vault_store.proofs.Rests.{rest_kept}
+use Rattle.vault_format.proofs.Frames.{applied_more, records_more, longer_front}
 
 pub note_kept : {D : Type 0} (disk : D → Disk) (store : StoreSeen D) (s : StoreState) (effect : Effect) (next : Vault) → HasRecord effect → Keeps disk store s → after s.noted effect ≡ Some next
     → Keeps disk (record store { buffer = store.buffer ++ record_of effect }) (with_effect s effect next)
@@ -34,14 +32,7 @@ note_kept disk store s effect next has keeps e = record {
   sealed = keeps.sealed;
   buffer = records_more s.buffer effect store.buffer keeps.buffer has;
   noted = applied_more s.sealed s.noted next s.buffer effect keeps.noted e;
-  frozen = keeps.frozen;
-  since = keeps.since;
-  alone = keeps.alone;
   renewal = keeps.renewal;
-  all = keeps.all;
-  part = keeps.part;
-  within = keeps.within;
-  whole = keeps.whole;
   files = keeps.files;
 }
 
@@ -68,21 +59,13 @@ module _ {D : Type 0} (disk : D → Disk) (old : StoreSeen D) (active : D) (same
     sealed = keeps.sealed;
     buffer = keeps.buffer;
     noted = keeps.noted;
-    frozen = keeps.frozen;
-    since = keeps.since;
-    alone = λ snapshot. absurd (false≢true (sym of_q ∙ snapshot));
-    renewal = λ is. keeps.renewal (renews_still p q old.beside (of_p ∙ sym of_q) is);
-    all = λ snapshot. absurd (false≢true (sym of_q ∙ snapshot));
-    part = keeps.part;
-    within = keeps.within;
-    whole = λ is both. keeps.whole (renews_still p q old.beside (of_p ∙ sym of_q) is) (honest_before both.0, both.1);
+    renewal = λ snapshot. absurd (false≢true (sym of_q ∙ snapshot));
     files = λ one two.
         let files = keeps.files (honest_before one) two in record {
           front = files.front;
           is_front = files.is_front;
           active = move (honest_before one) files.front (records_of s.sealing) (sym files.is_front.tail_is) (sym size) files.active;
-          spare = spare_still (IsSpare old.generation) (closed_spare old.generation) (disk old.spare) old.shut old.rest old.beside p q broken of_p of_q files.spare;
-          follows = files.follows;
+          spare = still_aside (IsSpare old.generation) (disk old.spare) old.shut old.rest p q broken of_p of_q files.spare;
         };
   }
     where
@@ -107,53 +90,16 @@ module _ {D : Type 0} (disk : D → Disk) (old : StoreSeen D) (active : D) (same
     sealed = subst (λ (w : Vault). applied w s.buffer ≡ Some s.noted) (sym settled_is) keeps.noted;
     buffer = record { each = tt; whole = refl };
     noted = refl;
-    frozen = keeps.frozen;
-    since = keeps.since ++ s.buffer ∷ [];
-    alone = λ snapshot. absurd (false≢true snapshot);
-    renewal = λ is. let r = keeps.renewal is in record {
-      spelled = r.spelled;
-      fits = r.fits;
-      each = each_more IsFrame keeps.since s.buffer r.each frame;
-      leads = frames_more keeps.frozen s.sealed s.noted keeps.since s.buffer r.leads keeps.noted;
-      size = r.size;
-    };
-    all = λ snapshot. absurd (false≢true snapshot);
-    part = λ is. let was = keeps.part is in omega (arith, was, ap length joined, length-append (frames_bytes keeps.since) (frame_of s.buffer), ap length under, ap length nothing);
-    within = λ is. let was = keeps.within is in omega (arith, was, ap length joined, length-append (frames_bytes keeps.since) (frame_of s.buffer));
-    whole = λ is both.
-        let was = keeps.within is in
-        keeps.whole is (honest_before both.0, both.1)
-        ∙ ap (λ (l : List ℕ). renewed_bytes (old.generation + 1) keeps.frozen l) (sym (ap (λ (l : List ℕ). take old.copied l) joined ∙ take-append-le old.copied (frames_bytes keeps.since) (frame_of s.buffer) was));
+    renewal = λ snapshot. absurd (false≢true snapshot);
     files = λ one two.
         let files = keeps.files (honest_before one) two in record {
           front = files.front;
           is_front = files.is_front;
           active = subst (λ (l : List ℕ). IsOnDisk (disk active) Written broken files.front l) keeps.buffer.whole (move (honest_before one) files.front (sym files.is_front.tail_is) files.active);
-          spare = spare_still (IsSpare old.generation) (closed_spare old.generation) (disk old.spare) old.shut old.rest old.beside Idle Written broken refl refl files.spare;
-          follows = λ is. let f = files.follows is in record {
-            head = f.head;
-            size = f.size;
-            bytes =
-                ap (λ (l : List ℕ). files.front ++ l) under
-                ∙ ap (λ (l : List ℕ). l ++ frame_of s.buffer) (sym (append-nil files.front) ∙ ap (λ (l : List ℕ). files.front ++ l) (sym nothing) ∙ f.bytes)
-                ∙ append_assoc f.head (frames_bytes keeps.since) (frame_of s.buffer)
-                ∙ ap (λ (l : List ℕ). f.head ++ l) (sym joined);
-          };
+          spare = still_aside (IsSpare old.generation) (disk old.spare) old.shut old.rest Idle Written broken refl refl files.spare;
         };
   }
     where
-      frame : IsFrame s.buffer
-      frame = record { some = some; each = keeps.buffer.each; few = omega (arith, few, ap length keeps.buffer.whole) }
-
-      joined : frames_bytes (keeps.since ++ s.buffer ∷ []) ≡ frames_bytes keeps.since ++ frame_of s.buffer
-      joined = frames_joined keeps.since s.buffer
-
-      under : frame_under_way s.buffer ≡ frame_of s.buffer
-      under = some_under_way s.buffer some
-
-      nothing : frame_under_way s.sealing ≡ []
-      nothing = none_under_way s.sealing (keeps.none refl)
-
       settled_is : s.settled ≡ s.sealed
       settled_is = let e = subst (λ (l : List Effect). applied s.settled l ≡ Some s.sealed) (keeps.none refl) keeps.sealed in cc
 
@@ -164,42 +110,15 @@ module _ {D : Type 0} (disk : D → Disk) (old : StoreSeen D) (active : D) (same
       → Keeps disk (record old { active = active; tail = tail; journal_length = journal_length; sealed = 0; phase = Idle; broken = false })
       (record { settled = s.sealed; sealed = s.sealed; noted = s.noted; sealing = []; buffer = s.buffer; phase = Idle; broken = false })
   settled_kept s tail journal_length tail_is journal_is move keeps =
-      record {
-        phase = refl;
-        broken = refl;
-        spelled = spelled_stays s.settled s.sealed s.sealing keeps.spelled keeps.sealing keeps.sealed;
-        sealing = tt;
-        few = λ commit. omega arith;
-        sealed_bytes = refl;
-        under_way = λ busy commit. absurd (false≢true (sym busy));
-        none = λ idle. refl;
-        sealed = refl;
-        buffer = keeps.buffer;
-        noted = keeps.noted;
-        frozen = keeps.frozen;
-        since = keeps.since;
-        alone = λ snapshot. absurd (false≢true snapshot);
-        renewal = keeps.renewal;
-        all = λ snapshot. absurd (false≢true snapshot);
-        part = λ is. let was = keeps.part is in omega (arith, was, tail_is, ap length under, length-frame (records_of s.sealing), keeps.sealed_bytes);
-        within = keeps.within;
-        whole = λ is both. keeps.whole is (honest_before both.0, both.1);
-        files = λ one two.
-            let files = keeps.files (honest_before one) two in record {
-              front = files.front ++ frame_bytes (records_of s.sealing);
-              is_front = longer_front files.front (settled_reading old s) s.sealing s.sealed tail journal_length files.is_front frame keeps.sealed (omega (arith, tail_is, keeps.sealed_bytes)) (omega (arith, journal_is, keeps.sealed_bytes));
-              active = move (honest_before one) files.front (records_of s.sealing) (sym files.is_front.tail_is) files.active;
-              spare = spare_still (IsSpare old.generation) (closed_spare old.generation) (disk old.spare) old.shut old.rest old.beside Opening Idle false refl refl files.spare;
-              follows = λ is. let f = files.follows is in record {
-                head = f.head;
-                size = f.size;
-                bytes = append-nil (files.front ++ frame_of s.sealing) ∙ ap (λ (l : List ℕ). files.front ++ l) (sym under) ∙ f.bytes;
-              };
-            };
-      }
+      rest_kept disk (record old { active = active; tail = tail; journal_length = journal_length; sealed = 0; phase = Idle; broken = false }) s.sealed s.noted s.buffer refl refl refl
+      (spelled_stays s.settled s.sealed s.sealing keeps.spelled keeps.sealing keeps.sealed) keeps.buffer keeps.noted
+      (λ one two.
+      let files = keeps.files (honest_before one) two in record {
+        front = files.front ++ frame_bytes (records_of s.sealing);
+        is_front = longer_front files.front (settled_reading old s) s.sealing s.sealed tail journal_length files.is_front frame keeps.sealed (omega (arith, tail_is, keeps.sealed_bytes)) (omega (arith, journal_is, keeps.sealed_bytes));
+        active = move (honest_before one) files.front (records_of s.sealing) (sym files.is_front.tail_is) files.active;
+        spare = still_aside (IsSpare old.generation) (disk old.spare) old.shut old.rest Opening Idle false refl refl files.spare;
+      })
     where
       frame : IsFrame s.sealing
       frame = record { some = keeps.under_way refl refl; each = keeps.sealing; few = keeps.few refl }
-
-      under : frame_under_way s.sealing ≡ frame_of s.sealing
-      under = some_under_way s.sealing (keeps.under_way refl refl)

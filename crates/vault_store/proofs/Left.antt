@@ -5,19 +5,15 @@ use Rattle.vault_device.specs.Disk.{Disk}
 use Rattle.vault_journal.specs.Spelling.{records_of}
 use Rattle.vault_store.specs.declared.phase.Phase.{Phase}
 use Rattle.vault_store.specs.declared.phase.Phase.TheVariants.{Idle, Written, Bodied, Opening, Start, Closing, Writing, Filled, Ready, SnapOpening}
-use Rattle.vault_format.specs.Files.{frame_bytes, Reading, IsFront, EndsBehind, IsSpare, AreRead}
+use Rattle.vault_format.specs.Snapshot.{current_version}
+use Rattle.vault_format.specs.Files.{frame_bytes, current_head, snapshot_bytes, Reading, IsFront, EndsBehind, IsSpare, AreRead}
 use Rattle.vault_store.specs.Phases.{is_idle, is_snapshot, is_opening, may_open}
 use Rattle.vault_store.specs.State.{StoreState}
 use Rattle.vault_store.specs.OnDisk.{IsEither, LeavesInPhase, IsOnDisk}
-use Rattle.vault_store.specs.declared.phase.Renewal.{Renewal}
-use Rattle.vault_store.specs.declared.phase.Renewal.TheVariants as renewals
-use Rattle.vault_store.specs.Beside.{spare_phase}
-use Rattle.vault_store.specs.Spares.{ClosedMayStand, HasFirst, IsRenewing, IsSpareOn}
-use Rattle.vault_store.specs.Seen.{StoreSeen, Keeps, settled_reading, counted_reading, sealed_reading, gate_at, gated, IsByGate, IsLeftWhile, IsLeftInside}
+use Rattle.vault_store.specs.Spares.{HasFirst, LeavesSpareIn}
+use Rattle.vault_store.specs.Seen.{StoreSeen, Keeps, IsRenewal, settled_reading, counted_reading, sealed_reading, gate_at, gated, IsByGate, IsLeftWhile, IsLeftInside}
 use Rattle.vault_store.specs.Laws.{AreHonest, CrashLeavesWhatIsKept, IsOneGate, OneGateIsOpened}
-use Rattle.vault_store.proofs.Asides.{closed_spare, spare_leaves, file_opened}
-use Rattle.vault_store.proofs.Besides.{alone_is, beside_leaves}
-use Rattle.vault_store.proofs.NewFiles.{its_front, its_bytes, its_is_front}
+use Rattle.vault_store.proofs.Asides.{closed_spare, spare_leaves, file_opened, renewed_front}
 use Rattle.vault_format.proofs.Frames.{longer_front}
 use Rattle.vault_store.proofs.Placed.{both_honest, left_placed}
 use Rattle.vault_format.proofs.Rights.{holds_head}
@@ -43,18 +39,21 @@ module _ {D : Type 0} (disk : D → Disk) (store : StoreSeen D) (s : StoreState)
           (record { some = keeps.under_way busy commit; each = keeps.sealing; few = keeps.few commit }) keeps.sealed (omega (arith, size)) (omega (arith, size))
 
   -- with the head gate of the spare open, or not
-  pub reads_renewed : (x y : List ℕ) → is_snapshot s.phase ≡ true → IsTrue (disk store.active).honest × IsTrue (disk store.spare).honest → EndsBehind front x → HasFirst (length store.rest) store.rest y → IsByGate 0 (settled_reading store s) (counted_reading true store s) y x y
-  reads_renewed x y snapshot honest ends has = record {
+  pub reads_renewed : (x y : List ℕ) → is_snapshot s.phase ≡ true → EndsBehind front x → HasFirst (length store.rest) store.rest y → IsByGate 0 (settled_reading store s) (counted_reading true store s) y x y
+  reads_renewed x y snapshot ends has = record {
     opened = λ one. inr (
       record {
-        front = its_front disk store s keeps snapshot honest;
-        is_front = its_is_front disk store s keeps snapshot honest;
-        ends = file_opened (its_front disk store s keeps snapshot honest) store.rest y (its_bytes disk store s keeps snapshot honest) has one;
+        front = current_head (store.generation + 1) ++ snapshot_bytes current_version s.sealed;
+        is_front = renewed_front (store.generation + 1) s.sealed renewal.spelled (omega arith) renewal.fits;
+        ends = file_opened (current_head (store.generation + 1) ++ snapshot_bytes current_version s.sealed) store.rest y (ap (λ (l : List ℕ). 1 ∷ l) (sym renewal.bytes)) has one;
       },
       inr (store.generation, omega arith, (store.version, holds_head x (settled_reading store s) (record { front = front; is_front = is_front; ends = ends }))),
     );
     shut = λ other. reads_front front x y (settled_reading store s) is_front ends (inl (inr other));
   }
+    where
+      renewal : IsRenewal store.generation s.sealed store.rest
+      renewal = keeps.renewal snapshot
 
   -- a crash that leaves the front leaves the durable vault
   pub inside_front : (x y : List ℕ) → EndsBehind front x → IsSpare store.generation y → IsLeftInside store s x y
@@ -70,9 +69,9 @@ module _ {D : Type 0} (disk : D → Disk) (store : StoreSeen D) (s : StoreState)
       ]
 
   -- one that leaves the head gate of the spare open or closed leaves the sealed vault or the durable one
-  pub inside_renewed : (x y : List ℕ) → is_snapshot s.phase ≡ true → may_open s.phase ≡ true → IsTrue (disk store.active).honest × IsTrue (disk store.spare).honest → EndsBehind front x → HasFirst (length store.rest) store.rest y → IsLeftInside store s x y
-  inside_renewed x y snapshot may honest ends has =
-      let by_gate = reads_renewed x y snapshot honest ends has in
+  pub inside_renewed : (x y : List ℕ) → is_snapshot s.phase ≡ true → may_open s.phase ≡ true → EndsBehind front x → HasFirst (length store.rest) store.rest y → IsLeftInside store s x y
+  inside_renewed x y snapshot may ends has =
+      let by_gate = reads_renewed x y snapshot ends has in
       elim (cases_eq (get_or y 0 0) 1) [
         | inl is ↦ inr (may, subst (λ (b : Bool). AreRead x y (counted_reading b store s)) (sym snapshot) (by_gate.opened is))
         | inr other ↦ inl (by_gate.shut other)
@@ -96,45 +95,27 @@ leaves_in disk SnapOpening false front records on = λ x image. subst (EndsBehin
 abbrev pub IsLeftHere : {D : Type 0} → StoreSeen D → StoreState → List ℕ → List ℕ → Type 0
 IsLeftHere store s x y = IsLeftWhile (is_opening s.phase) (gate_at store s.phase) (settled_reading store s) (sealed_reading store s) (gated s.phase x y) x y
 
--- what a crash leaves of the spare: the whole new file where its head gate is opened, else what may stand there
-abbrev pub LeavesBeside : (List ℕ → Type 0) → Disk → Phase → List ℕ → List ℕ → Type 0
-LeavesBeside MayStand disk SnapOpening rest y = HasFirst (length rest) rest y
-LeavesBeside MayStand disk _ rest y = MayStand y
-
--- also beside commits
-pub leaves_beside : (MayStand : List ℕ → Type 0) → ClosedMayStand MayStand → (disk : Disk) (b : Renewal) (p : Phase) (broken shut : Bool) (rest y : List ℕ) → (is_snapshot p ≡ true → b ≡ renewals.Nothing) → IsSpareOn MayStand disk (spare_phase p b) broken shut rest → disk.IsImage y → LeavesBeside MayStand disk p rest y
-leaves_beside MayStand closed disk b Idle broken shut rest y alone is image = beside_leaves MayStand closed disk shut rest b Idle broken refl is y image
-leaves_beside MayStand closed disk b Written broken shut rest y alone is image = beside_leaves MayStand closed disk shut rest b Written broken refl is y image
-leaves_beside MayStand closed disk b Bodied broken shut rest y alone is image = beside_leaves MayStand closed disk shut rest b Bodied broken refl is y image
-leaves_beside MayStand closed disk b Opening broken shut rest y alone is image = beside_leaves MayStand closed disk shut rest b Opening broken refl is y image
-leaves_beside MayStand closed disk b Start broken shut rest y alone is image = spare_leaves MayStand disk shut rest closed Start broken (subst (λ (q : Phase). IsSpareOn MayStand disk q broken shut rest) (alone_is b Start (alone refl)) is) y image
-leaves_beside MayStand closed disk b Closing broken shut rest y alone is image = spare_leaves MayStand disk shut rest closed Closing broken (subst (λ (q : Phase). IsSpareOn MayStand disk q broken shut rest) (alone_is b Closing (alone refl)) is) y image
-leaves_beside MayStand closed disk b (Writing more) broken shut rest y alone is image = spare_leaves MayStand disk shut rest closed (Writing more) broken (subst (λ (q : Phase). IsSpareOn MayStand disk q broken shut rest) (alone_is b (Writing more) (alone refl)) is) y image
-leaves_beside MayStand closed disk b Filled broken shut rest y alone is image = spare_leaves MayStand disk shut rest closed Filled broken (subst (λ (q : Phase). IsSpareOn MayStand disk q broken shut rest) (alone_is b Filled (alone refl)) is) y image
-leaves_beside MayStand closed disk b Ready broken shut rest y alone is image = spare_leaves MayStand disk shut rest closed Ready broken (subst (λ (q : Phase). IsSpareOn MayStand disk q broken shut rest) (alone_is b Ready (alone refl)) is) y image
-leaves_beside MayStand closed disk b SnapOpening broken shut rest y alone is image = spare_leaves MayStand disk shut rest closed SnapOpening broken (subst (λ (q : Phase). IsSpareOn MayStand disk q broken shut rest) (alone_is b SnapOpening (alone refl)) is) y image
-
 -- what is left in each phase
 left_in : {D : Type 0} (disk : D → Disk) (store : StoreSeen D) (s : StoreState) (p : Phase) → Keeps disk store (record s { phase = p }) → (front x y : List ℕ) → IsFront front (settled_reading store s)
-    → LeavesInPhase (disk store.active) p front (records_of s.sealing) → (disk store.active).IsImage x → IsTrue (disk store.active).honest × IsTrue (disk store.spare).honest → LeavesBeside (IsSpare store.generation) (disk store.spare) p store.rest y → IsLeftHere store (record s { phase = p }) x y
-left_in disk store s Idle keeps front x y is_front leaves image honest spare = reads_front front x y (settled_reading store s) is_front (leaves x image) spare
-left_in disk store s Written keeps front x y is_front leaves image honest spare = reads_front front x y (settled_reading store s) is_front (leaves x image) spare
-left_in disk store s Bodied keeps front x y is_front leaves image honest spare = reads_front front x y (settled_reading store s) is_front (leaves x image) spare
-left_in disk store s Start keeps front x y is_front leaves image honest spare = reads_front front x y (settled_reading store s) is_front (leaves x image) spare
-left_in disk store s Closing keeps front x y is_front leaves image honest spare = reads_front front x y (settled_reading store s) is_front (leaves x image) spare
-left_in disk store s (Writing more) keeps front x y is_front leaves image honest spare = reads_front front x y (settled_reading store s) is_front (leaves x image) spare
-left_in disk store s Filled keeps front x y is_front leaves image honest spare = reads_front front x y (settled_reading store s) is_front (leaves x image) spare
-left_in disk store s Ready keeps front x y is_front leaves image honest spare = reads_front front x y (settled_reading store s) is_front (leaves x image) spare
-left_in disk store s Opening keeps front x y is_front leaves image honest spare = reads_either disk store (record s { phase = Opening }) keeps front is_front x y refl refl (leaves x image) spare
-left_in disk store s SnapOpening keeps front x y is_front leaves image honest spare = reads_renewed disk store (record s { phase = SnapOpening }) keeps front is_front x y refl honest (leaves x image) spare
+    → LeavesInPhase (disk store.active) p front (records_of s.sealing) → (disk store.active).IsImage x → LeavesSpareIn (IsSpare store.generation) (disk store.spare) p store.rest → (disk store.spare).IsImage y → IsLeftHere store (record s { phase = p }) x y
+left_in disk store s Idle keeps front x y is_front leaves image spare other = reads_front front x y (settled_reading store s) is_front (leaves x image) (spare y other)
+left_in disk store s Written keeps front x y is_front leaves image spare other = reads_front front x y (settled_reading store s) is_front (leaves x image) (spare y other)
+left_in disk store s Bodied keeps front x y is_front leaves image spare other = reads_front front x y (settled_reading store s) is_front (leaves x image) (spare y other)
+left_in disk store s Start keeps front x y is_front leaves image spare other = reads_front front x y (settled_reading store s) is_front (leaves x image) (spare y other)
+left_in disk store s Closing keeps front x y is_front leaves image spare other = reads_front front x y (settled_reading store s) is_front (leaves x image) (spare y other)
+left_in disk store s (Writing more) keeps front x y is_front leaves image spare other = reads_front front x y (settled_reading store s) is_front (leaves x image) (spare y other)
+left_in disk store s Filled keeps front x y is_front leaves image spare other = reads_front front x y (settled_reading store s) is_front (leaves x image) (spare y other)
+left_in disk store s Ready keeps front x y is_front leaves image spare other = reads_front front x y (settled_reading store s) is_front (leaves x image) (spare y other)
+left_in disk store s Opening keeps front x y is_front leaves image spare other = reads_either disk store (record s { phase = Opening }) keeps front is_front x y refl refl (leaves x image) (spare y other)
+left_in disk store s SnapOpening keeps front x y is_front leaves image spare other = reads_renewed disk store (record s { phase = SnapOpening }) keeps front is_front x y refl (leaves x image) (spare y other)
 
 -- What a crash leaves of a store.
 pub left : {D : Type 0} (disk : D → Disk) (store : StoreSeen D) (s : StoreState) → Keeps disk store s → IsTrue (disk store.active).honest → IsTrue (disk store.spare).honest
     → (x y : List ℕ) → (disk store.active).IsImage x → (disk store.spare).IsImage y → IsLeftHere store s x y
 left disk store s keeps one two x y image other =
     let files = keeps.files one two in
-    left_in disk store s s.phase keeps files.front x y files.is_front (leaves_in (disk store.active) s.phase s.broken files.front (records_of s.sealing) files.active) image (one, two)
-    (leaves_beside (IsSpare store.generation) (closed_spare store.generation) (disk store.spare) store.beside s.phase s.broken store.shut store.rest y keeps.alone files.spare other)
+    left_in disk store s s.phase keeps files.front x y files.is_front (leaves_in (disk store.active) s.phase s.broken files.front (records_of s.sealing) files.active) image
+    (spare_leaves (IsSpare store.generation) (disk store.spare) store.shut store.rest (closed_spare store.generation) s.phase s.broken files.spare) other
 
 -- while a gate is being opened, only that byte isn't durable
 gated_in : {D : Type 0} (disk : D → Disk) (store : StoreSeen D) (s : StoreState) (p : Phase) → is_opening p ≡ true → Keeps disk store (record s { phase = p; broken = false }) → AreHonest disk store → IsOneGate (disk (gated p store.active store.spare)) (gate_at store p)
@@ -145,9 +126,7 @@ gated_in disk store s Opening is keeps honest =
 gated_in disk store s SnapOpening is keeps honest =
     let both = both_honest disk store.which store.active store.spare honest.first honest.second in
     let files = keeps.files both.0 both.1 in
-    let spare : IsRenewing (disk store.spare) store.rest =
-    subst (λ (q : Phase). IsSpareOn (IsSpare store.generation) (disk store.spare) q false store.shut store.rest) (alone_is store.beside SnapOpening (keeps.alone refl)) files.spare in
-    record { same = spare.same; opened = spare.opened; was_shut = spare.was_shut }
+    record { same = files.spare.same; opened = files.spare.opened; was_shut = files.spare.was_shut }
 gated_in disk store s Idle is keeps honest = absurd (cc)
 gated_in disk store s Written is keeps honest = absurd (cc)
 gated_in disk store s Bodied is keeps honest = absurd (cc)

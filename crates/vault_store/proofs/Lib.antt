@@ -3,19 +3,14 @@ mod Disks
 pub mod Busy
 mod Renewals
 pub mod Asides
-pub mod Besides
-pub mod NewFiles
 mod Rests
 mod Kept
 mod Placed
 pub mod Left
 mod Sounds
 mod Advances
-mod Copying
-mod BesideRows
-mod BesideSteps
 mod Failed
-mod RenewalRows
+mod Renewed
 mod Exchanged
 mod New
 pub mod Creating
@@ -27,7 +22,6 @@ pub mod Growing
 pub mod TwoVaults
 mod Passes
 mod Companions
-mod Lanes
 mod Headed
 mod Pieces
 mod Made

@@ -19,9 +19,8 @@ use Rattle.vault_store.specs.Seen.{StoreSeen, Keeps}
 use Rattle.vault_store.specs.Sound.{IsSoundStore}
 use Rattle.vault_store.specs.Create.{new_front, new_file, IsFilled}
 use Rattle.vault_store.specs.Companions.{MayPrecede, IsOfOneVault}
-use Rattle.vault_store.specs.declared.phase.Renewal.TheVariants as renewals
-use Rattle.vault_store.proofs.Companions.{closed_precedes, after_led}
-use Rattle.vault_store.proofs.Growing.{earlier_same}
+use Rattle.vault_store.proofs.Companions.{closed_precedes}
+use Rattle.vault_store.proofs.Passes.{head_based}
 use Rattle.vault_store.proofs.Renewals.{idle_leaves}
 use Rattle.vault_store.proofs.Rests.{rest_kept}
 use Rattle.vault_format.proofs.Spelled.{now_spelled}
@@ -55,7 +54,7 @@ new_idle old new filled = record { settled = filled.settled; ends = subst (EndsB
 module _ {D : Type 0} (disk : D → Disk) (first second first_new second_new : D) (same : (disk first_new).honest ≡ (disk first).honest) (file : IsTrue (disk first).honest → IsFilled (disk first) (disk first_new) new_file)
     (same_second : (disk second_new).honest ≡ (disk second).honest) (empty : IsTrue (disk second).honest → IsFilled (disk second) (disk second_new) []) where
   abbrev pub new_seen : StoreSeen D
-  new_seen = record { active = first_new; spare = second_new; which = First; buffer = []; sealed = 0; version = current_version; generation = 1; tail = 34; journal_length = 0; phase = Idle; broken = false; shut = false; rest = []; beside = renewals.Nothing; from = 0; copied = 0; lane = 0 }
+  new_seen = record { active = first_new; spare = second_new; which = First; buffer = []; sealed = 0; version = current_version; generation = 1; tail = 34; journal_length = 0; phase = Idle; broken = false; shut = false; rest = [] }
 
   -- of the empty file nothing stands, whatever that may stand beside
   new_aside : (MayStand : List ℕ → Type 0) → MayStand [] → ((y : List ℕ) → IsTorn 0 1 [] y → MayStand y) → IsTrue (disk second_new).honest → IsAside MayStand (disk second_new) false
@@ -75,32 +74,22 @@ module _ {D : Type 0} (disk : D → Disk) (first second first_new second_new : D
     short = omega arith;
     active = λ one. record { front = new_front; records = []; stands = refl; size = refl; on_disk = new_idle (disk first) (disk first_new) (file (subst IsTrue same one)) };
     spare = λ two. new_aside (λ x. Unit {0}) tt (λ y torn. tt) two;
-    alone = λ snapshot. refl;
-    bare = λ b. refl;
-    few = omega arith;
-    behind = omega arith;
-    holds = omega arith;
-    laned = λ is. absurd (false≢true is);
   }
 
   pub new_kept : Keeps disk new_seen (at_rest new_vault)
   new_kept =
-      rest_kept disk new_seen new_vault new_vault [] refl refl refl refl new_snapshot (record { each = tt; whole = refl }) refl
+      rest_kept disk new_seen new_vault new_vault [] refl refl refl new_snapshot (record { each = tt; whole = refl }) refl
       (λ one two. record {
         front = new_front;
         is_front = new_is_front;
         active = new_idle (disk first) (disk first_new) (file (subst IsTrue same one));
         spare = new_aside (IsSpare 1) (inl (inl (omega arith))) (λ y torn. inl (inl (omega (arith, torn.no_longer)))) two;
-        follows = λ is. absurd (false≢true is);
       })
 
   -- the empty file may stand beside the new one
   pub new_one : IsOfOneVault disk new_seen
-  new_one one two =
-      let after = λ (x : List ℕ) (image : (disk first_new).IsImage x). after_led 1 new_vault new_vault x
-      (new_reading, record { front = new_front; is_front = new_is_front; ends = idle_leaves (disk first_new) new_front [] (new_idle (disk first) (disk first_new) (file (subst IsTrue same one))) x image }, refl, refl) (earlier_same new_vault) in record {
-        least = new_vault;
-        headed = λ x image. (after x image).head;
-        leads = λ x vault image leads. (after x image).leads vault leads;
-        beside = new_aside (MayPrecede 1 new_vault) (closed_precedes 1 new_vault [] (inl (omega arith))) (λ y torn. closed_precedes 1 new_vault y (inl (omega (arith, torn.no_longer)))) two;
-      }
+  new_one one two = record {
+    base = new_vault;
+    based = λ x image. head_based 1 new_vault x new_snapshot (omega arith) (omega arith) (idle_leaves (disk first_new) new_front [] (new_idle (disk first) (disk first_new) (file (subst IsTrue same one))) x image);
+    beside = new_aside (MayPrecede 1 new_vault) (closed_precedes 1 new_vault [] (inl (omega arith))) (λ y torn. closed_precedes 1 new_vault y (inl (omega (arith, torn.no_longer)))) two;
+  }

@@ -24,11 +24,9 @@ use Rattle.vault_store.specs.State.{at_rest}
 use Rattle.vault_store.specs.Seen.{StoreSeen, of_file, Keeps}
 use Rattle.vault_store.specs.Sound.{IsSoundStore}
 use Rattle.vault_store.specs.Companions.{MayPrecede, IsOfOneVault}
-use Rattle.vault_store.specs.TwoVaults.{LeadsTo, AreOfTwoVaults}
+use Rattle.vault_store.specs.TwoVaults.{IsBasedOn, AreOfTwoVaults}
 use Rattle.vault_store.proofs.Asides.{torn_spare}
-use Rattle.vault_store.specs.declared.phase.Renewal.TheVariants as renewals
-use Rattle.vault_store.proofs.Companions.{after_led, torn_precedes, precedes_beside}
-use Rattle.vault_store.proofs.Growing.{earlier_same}
+use Rattle.vault_store.proofs.Companions.{begun_ends, based_front, torn_precedes, precedes_beside}
 use Rattle.vault_store.proofs.Passes.{two_exchanged}
 use Rattle.vault_store.proofs.Behind.{quiet_then}
 use Rattle.vault_store.proofs.Bodies.{holds_read}
@@ -148,7 +146,7 @@ module _ {D : Type 0} (disk : D → Disk) (which : File) (first second one two a
 
   module _ (version : FileVersion) (v : Vault) (frames tail journal_length : ℕ) (contents : AreContents (disk active) version v frames tail journal_length) (shut : Bool) where
     abbrev pub opened_seen : StoreSeen D
-    opened_seen = record { active = active_new; spare = spare; which = which; buffer = []; sealed = 0; version = version; generation = g; tail = tail; journal_length = journal_length; phase = Idle; broken = false; shut = shut; rest = []; beside = renewals.Nothing; from = 0; copied = 0; lane = 0 }
+    opened_seen = record { active = active_new; spare = spare; which = which; buffer = []; sealed = 0; version = version; generation = g; tail = tail; journal_length = journal_length; phase = Idle; broken = false; shut = shut; rest = [] }
 
     abbrev reading : Reading
     reading = record { vault = v; version = version; generation = g; tail = tail; journal_length = journal_length }
@@ -205,12 +203,6 @@ module _ {D : Type 0} (disk : D → Disk) (which : File) (first second one two a
         inside = omega (arith, contents.tail_is);
         short = omega arith;
         spare = λ other. opened_aside (λ x. Unit {0}) other tt (λ y isnt torn. tt);
-        alone = λ snapshot. refl;
-        bare = λ b. refl;
-        few = omega arith;
-        behind = omega arith;
-        holds = omega arith;
-        laned = λ is. absurd (false≢true is);
         active = λ honest.
             let closed = contents.closed (subst IsTrue reads.called.same_honesty honest) in
             let size = length-take-le tail (disk active).shown (omega (arith, closed.stands)) in record {
@@ -230,7 +222,7 @@ module _ {D : Type 0} (disk : D → Disk) (which : File) (first second one two a
 
       pub opened_kept : Keeps disk opened_seen (at_rest v)
       opened_kept =
-          rest_kept disk opened_seen v v [] refl refl refl refl (frames_spelled contents.base v contents.list contents.spelled.has contents.each contents.leads) (record { each = tt; whole = refl }) refl
+          rest_kept disk opened_seen v v [] refl refl refl (frames_spelled contents.base v contents.list contents.spelled.has contents.each contents.leads) (record { each = tt; whole = refl }) refl
           (λ honest other.
           let here = both_honest disk which first second (subst IsTrue handed_active.called.same_honesty (subst IsTrue reads.called.same_honesty honest)) (subst IsTrue handed_spare.called.same_honesty other) in
           let holds = active_holds here.0 here.1 in record {
@@ -238,7 +230,6 @@ module _ {D : Type 0} (disk : D → Disk) (which : File) (first second one two a
             is_front = holds.is_front;
             active = record { settled = settled_active honest; ends = subst (EndsBehind holds.front) (sym (still_shown honest)) holds.ends };
             spare = let stands = subst (IsSpare g) (sym (spare_shown other)) (newer_here here.0 here.1).1 in opened_aside (IsSpare g) other stands (λ y isnt torn. torn_spare g (disk spare).shown y stands isnt torn);
-            follows = λ is. absurd (false≢true is);
           })
 
       -- files that are not of two vaults are of one
@@ -246,18 +237,17 @@ module _ {D : Type 0} (disk : D → Disk) (which : File) (first second one two a
       opened_one pass honest other =
           let here = both_honest disk which first second (subst IsTrue handed_active.called.same_honesty (subst IsTrue reads.called.same_honesty honest)) (subst IsTrue handed_spare.called.same_honesty other) in
           let holds = active_holds here.0 here.1 in
-          let leads : LeadsTo g (disk active).shown v = (reading, holds, refl, refl) in
+          let based = based_front holds.front (disk active).shown reading holds.is_front (begun_ends holds.front (disk active).shown holds.ends) in
           let beside : AreOfTwoVaults (disk active).shown (disk spare).shown → ⊥ =
           subst (λ (l : List ℕ). AreOfTwoVaults l (disk spare).shown → ⊥) (sym (active_shown here.0 here.1))
           (subst (λ (l : List ℕ). AreOfTwoVaults (of_file which (disk first).shown (disk second).shown) l → ⊥) (sym (spare_shown other ∙ shown_placed disk which second first))
           (pass_placed which (disk first).shown (disk second).shown pass)) in
           let spare_is = subst (IsSpare g) (sym (spare_shown other)) (newer_here here.0 here.1).1 in
-          let stands = precedes_beside (disk active).shown (disk spare).shown g v leads spare_is beside in
-          let after = λ (x : List ℕ) (image : (disk active_new).IsImage x). after_led g v v x (subst (λ (file : List ℕ). LeadsTo g file v) (sym ((settled_active honest).only x image ∙ still_shown honest)) leads) (earlier_same v) in record {
-            least = v;
-            headed = λ x image. (after x image).head;
-            leads = λ x vault image leads. (after x image).leads vault leads;
-            beside = opened_aside (MayPrecede g v) other stands (λ y isnt torn. torn_precedes g v (disk spare).shown y stands isnt torn);
+          let stands = precedes_beside (disk active).shown (disk spare).shown g holds.is_front.base based spare_is beside in record {
+            base = holds.is_front.base;
+            based = λ x image.
+                subst (λ (file : List ℕ). IsBasedOn g file holds.is_front.base) (sym ((settled_active honest).only x image ∙ still_shown honest)) based;
+            beside = opened_aside (MayPrecede g holds.is_front.base) other stands (λ y isnt torn. torn_precedes g holds.is_front.base (disk spare).shown y stands isnt torn);
           }
 
 -- where no fault was counted until the active file was read on, and none then, none was counted of either device

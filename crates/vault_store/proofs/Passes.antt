@@ -7,8 +7,10 @@ use Rattle.vault_device.specs.Disk.{Disk}
 use Rattle.vault_device.proofs.Torn.{torn_byte}
 use Rattle.vault_journal.specs.Gate.{IsClosed}
 use Rattle.vault_journal.specs.Spelling.{records_of}
-use Rattle.vault_format.specs.Files.{IsFront, EndsBehind, IsClosedFile, IsSpare, HasHead, HasRightHead}
+use Rattle.vault_format.specs.Snapshot.{current_version, snapshot_of, HasSnapshot}
+use Rattle.vault_format.specs.Files.{header, current_head, snapshot_bytes, IsFront, EndsBehind, IsClosedFile, HasHead, HasRightHead}
 use Rattle.vault_format.specs.Faults.{IsOpenFile}
+use Rattle.vault_format.proofs.Spelled.{now_spelled}
 use Rattle.vault_format.proofs.Rights.{head_open, not_both, one_generation, holds_head}
 use Rattle.vault_store.specs.declared.opening.File.{File}
 use Rattle.vault_store.specs.declared.opening.File.TheVariants.{First, Second}
@@ -16,17 +18,15 @@ use Rattle.vault_store.specs.declared.phase.Phase.{Phase}
 use Rattle.vault_store.specs.declared.phase.Phase.TheVariants.{Idle, Written, Bodied, Opening, Start, Closing, Writing, Filled, Ready, SnapOpening}
 use Rattle.vault_store.specs.Earlier.{IsEarlier}
 use Rattle.vault_store.specs.Phases.{is_snapshot}
-use Rattle.vault_store.specs.Seen.{StoreSeen, of_file, Keeps, settled_reading, counted_reading}
-use Rattle.vault_store.specs.Spares.{HasFirst, IsSpareIn, IsSpareOn}
+use Rattle.vault_store.specs.Seen.{StoreSeen, of_file, Keeps, IsRenewal, settled_reading}
+use Rattle.vault_store.specs.Spares.{HasFirst}
 use Rattle.vault_store.specs.State.{StoreState}
-use Rattle.vault_store.specs.TwoVaults.{LeadsTo, AreOfTwoVaults, ClosedFilesPass, FramesPass, TornGatesPass, SnapshotsPass, is_renewing}
-use Rattle.vault_store.proofs.Asides.{file_opened}
-use Rattle.vault_store.proofs.Besides.{alone_is}
-use Rattle.vault_store.proofs.NewFiles.{its_front, its_bytes, its_is_front}
-use Rattle.vault_store.proofs.Growing.{grown, earlier_on}
+use Rattle.vault_store.specs.TwoVaults.{LeadsTo, IsBasedOn, IsOfAnother, AreOfTwoVaults, ClosedFilesPass, FramesLeaveIt, TornGatesPass, SnapshotsPass, is_renewing}
+use Rattle.vault_store.proofs.Asides.{file_opened, renewed_front}
+use Rattle.vault_store.proofs.Growing.{grown}
 use Rattle.vault_store.proofs.Placed.{both_honest}
 use Rattle.vault_store.proofs.Renewals.{idle_leaves}
-use Rattle.vault_store.proofs.TwoVaults.{one_led, decided, next_to, first_older, first_shut, second_shut}
+use Rattle.vault_store.proofs.TwoVaults.{one_based, decided, next_to, first_older, first_shut, second_shut}
 
 pub two_exchanged : (first second : List ℕ) → AreOfTwoVaults first second → AreOfTwoVaults second first
 two_exchanged first second two = elim two [ inl is ↦ inr is | inr is ↦ inl is ]
@@ -46,30 +46,28 @@ pub led_head : (file : List ℕ) (g : ℕ) (v : Vault) → LeadsTo g file v → 
 led_head file g v leads = (leads.0.version, subst (λ (k : ℕ). HasHead leads.0.version k file) leads.2 (holds_head file leads.0 leads.1))
 
 -- an older file that leads to an earlier vault
-pub earlier_pass : (older newer : List ℕ) (g : ℕ) (v latest : Vault) → LeadsTo g older v → LeadsTo (g + 1) newer latest → IsEarlier v latest → AreOfTwoVaults older newer → ⊥
-earlier_pass older newer g v latest leads leads_newer earlier two =
+pub earlier_pass : (older newer : List ℕ) (g : ℕ) (v base : Vault) → LeadsTo g older v → IsBasedOn (g + 1) newer base → IsEarlier v base → AreOfTwoVaults older newer → ⊥
+earlier_pass older newer g v base leads based earlier two =
     let head = led_head older g v leads in
-    let other = led_head newer (g + 1) latest leads_newer in
-    never ((first_older older newer g (g + 1) false head other (omega arith) (next_to older newer g (g + 1) false head other refl (decided older newer g v latest true leads leads_newer (λ holds. earlier, λ is. refl)))).1 two)
+    let other : HasRightHead (g + 1) newer = (based.version, based.head) in
+    never ((first_older older newer g (g + 1) false head other (omega arith) (next_to older newer g (g + 1) false head other refl (decided older newer g v base true leads based (λ holds. earlier, λ is. refl)))).1 two)
 
--- frames behind those of the newer file
-pub frames_pass : FramesPass
-frames_pass older newer longer g latest later is also on pass (inl far) =
-    let head = led_head newer g latest is in
-    let same = one_generation longer far.higher g far.newer_head.1 (led_head longer g later also).1 in
-    let more = far.far in
-    pass (inl (record { lower = far.lower; higher = g; older_head = far.older_head; newer_head = head; far = omega (arith, same, more) }))
-frames_pass older newer longer g latest later is also on pass (inr unrelated) =
-    let same = one_generation longer g (unrelated.generation + 1) (led_head longer g later also).1 (led_head longer (unrelated.generation + 1) unrelated.latest unrelated.leads_newer).1 in
-    let last : later ≡ unrelated.latest = one_led longer g (unrelated.generation + 1) later unrelated.latest also unrelated.leads_newer in
-    pass (inr (record {
+-- frames behind the newer file's snapshot
+more_frames : (older newer longer : List ℕ) (g : ℕ) (base : Vault) → IsBasedOn g newer base → IsBasedOn g longer base → IsOfAnother older newer → IsOfAnother older longer
+more_frames older newer longer g base is also (inl far) =
+    inl (record { lower = far.lower; higher = g; older_head = far.older_head; newer_head = (also.version, also.head); far = let same = one_generation newer far.higher g far.newer_head.1 is.head in let more = far.far in omega (arith, same, more) })
+more_frames older newer longer g base is also (inr unrelated) =
+    inr (record {
       generation = unrelated.generation;
       vault = unrelated.vault;
-      latest = latest;
+      base = base;
       leads = unrelated.leads;
-      leads_newer = subst (λ (k : ℕ). LeadsTo k newer latest) same is;
-      not_earlier = λ earlier. unrelated.not_earlier (subst (λ (b : Vault). IsEarlier unrelated.vault b) last (earlier_on unrelated.vault latest later earlier on));
-    }))
+      based = subst (λ (k : ℕ). IsBasedOn k longer base) (one_generation newer g (unrelated.generation + 1) is.head unrelated.based.head) also;
+      not_earlier = λ earlier. unrelated.not_earlier (subst (λ (b : Vault). IsEarlier unrelated.vault b) (one_based newer g (unrelated.generation + 1) base unrelated.base is unrelated.based) earlier);
+    })
+
+pub frames_leave : FramesLeaveIt
+frames_leave older newer longer g base is also = (more_frames older newer longer g base is also, more_frames older longer newer g base also is)
 
 -- what a torn write of an open head gate leaves
 pub torn_pass : TornGatesPass
@@ -86,46 +84,53 @@ torn_pass older newer torn g head is pass two = elim (cases_eq (get_or torn 0 0)
     some : 0 < length older
     some = let long = opened.long in omega (arith, long)
 
+-- a file that ends behind a new snapshot is based on it
+pub head_based : (g : ℕ) (v : Vault) (file : List ℕ) → HasSnapshot v → 1 ≤ g → g < 2 ^ 64 → EndsBehind (current_head g ++ snapshot_bytes current_version v) file → IsBasedOn g file v
+head_based g v file has given fits ends =
+    let stands = ends.closed.stands in record {
+      version = current_version;
+      rest = drop (length front) file;
+      head = holds_head file (record { vault = v; version = current_version; generation = g; tail = header + length (snapshot_of v); journal_length = 0 }) (record { front = front; is_front = renewed_front g v has given fits; ends = ends });
+      spelled = now_spelled v has;
+      some = λ none. absurd (omega (arith, ap length none, length-drop (length front) file, stands));
+      bytes = sym (take-append-drop (length front) file) ∙ ap (λ (l : List ℕ). l ++ drop (length front) file) ends.begins;
+    }
+  where
+    front : List ℕ
+    front = current_head g ++ snapshot_bytes current_version v
+
 -- what a crash leaves where a snapshot is written, or its head gate opened
 module _ {D : Type 0} (disk : D → Disk) (store : StoreSeen D) (s : StoreState) (front x y : List ℕ) (is_front : IsFront front (settled_reading store s)) (ends : EndsBehind front x) where
-  pub renewed_pass : (keeps : Keeps disk store s) → is_snapshot s.phase ≡ true → IsTrue (disk store.active).honest × IsTrue (disk store.spare).honest → HasFirst (length store.rest) store.rest y → AreOfTwoVaults x y → ⊥
-  renewed_pass keeps snapshot honest has two = elim (cases_eq (get_or y 0 0) 1) [
-    | inl one ↦ earlier_pass x y store.generation s.settled s.sealed leads (leads_now one) (grown s.settled s.sealed s.sealing keeps.sealed) two
+  pub renewed_pass : Keeps disk store s → is_snapshot s.phase ≡ true → HasFirst (length store.rest) store.rest y → AreOfTwoVaults x y → ⊥
+  renewed_pass keeps snapshot has two = elim (cases_eq (get_or y 0 0) 1) [
+    | inl one ↦ earlier_pass x y store.generation s.settled s.sealed leads (based_now one) (grown s.settled s.sealed s.sealing keeps.sealed) two
     | inr shut ↦ closed_pass x y (inr (inr shut)) two
   ]
     where
+      renewal : IsRenewal store.generation s.sealed store.rest
+      renewal = keeps.renewal snapshot
+
       leads : LeadsTo store.generation x s.settled
       leads = (settled_reading store s, record { front = front; is_front = is_front; ends = ends }, refl, refl)
 
-      leads_now : get_or y 0 0 ≡ 1 → LeadsTo (store.generation + 1) y s.sealed
-      leads_now one = (
-        counted_reading true store s,
-        record {
-          front = its_front disk store s keeps snapshot honest;
-          is_front = its_is_front disk store s keeps snapshot honest;
-          ends = file_opened (its_front disk store s keeps snapshot honest) store.rest y (its_bytes disk store s keeps snapshot honest) has one;
-        },
-        refl,
-        refl,
-      )
+      new_front : List ℕ
+      new_front = current_head (store.generation + 1) ++ snapshot_bytes current_version s.sealed
 
--- the spare of a snapshot that stands alone
-pub spare_alone : {D : Type 0} (disk : D → Disk) (store : StoreSeen D) (s : StoreState) (p : Phase) → is_snapshot p ≡ true → Keeps disk store (record s { phase = p; broken = false }) → IsTrue (disk store.active).honest → IsTrue (disk store.spare).honest
-    → IsSpareIn (IsSpare store.generation) (disk store.spare) p store.shut store.rest
-spare_alone disk store s p snapshot keeps one two =
-    let files = keeps.files one two in
-    subst (λ (q : Phase). IsSpareOn (IsSpare store.generation) (disk store.spare) q false store.shut store.rest) (alone_is store.beside p (keeps.alone snapshot)) files.spare
+      ends_now : get_or y 0 0 ≡ 1 → EndsBehind new_front y
+      ends_now one = file_opened new_front store.rest y (ap (λ (l : List ℕ). 1 ∷ l) (sym renewal.bytes)) has one
+
+      based_now : get_or y 0 0 ≡ 1 → IsBasedOn (store.generation + 1) y s.sealed
+      based_now one = head_based (store.generation + 1) s.sealed y renewal.spelled (omega arith) renewal.fits (ends_now one)
 
 -- in each phase
 passes_in : {D : Type 0} (disk : D → Disk) (store : StoreSeen D) (s : StoreState) (p : Phase) → is_renewing p ≡ true → Keeps disk store (record s { phase = p; broken = false }) → IsTrue (disk store.active).honest → IsTrue (disk store.spare).honest
     → (x y : List ℕ) → (disk store.active).IsImage x → (disk store.spare).IsImage y → AreOfTwoVaults x y → ⊥
-passes_in disk store s (Writing left) renewing keeps one two x y image other is = let spare = spare_alone disk store s (Writing left) refl keeps one two in closed_pass x y (inr (inr (spare.closed y other).shut)) is
-passes_in disk store s Filled renewing keeps one two x y image other is = let spare = spare_alone disk store s Filled refl keeps one two in closed_pass x y (inr (inr (spare.closed y other).shut)) is
-passes_in disk store s Ready renewing keeps one two x y image other is = let spare = spare_alone disk store s Ready refl keeps one two in closed_pass x y (inr (inr (subst (IsClosed 0) (sym (spare.settled.only y other)) spare.closed).shut)) is
+passes_in disk store s (Writing left) renewing keeps one two x y image other is = let files = keeps.files one two in closed_pass x y (inr (inr (files.spare.closed y other).shut)) is
+passes_in disk store s Filled renewing keeps one two x y image other is = let files = keeps.files one two in closed_pass x y (inr (inr (files.spare.closed y other).shut)) is
+passes_in disk store s Ready renewing keeps one two x y image other is = let files = keeps.files one two in closed_pass x y (inr (inr (subst (IsClosed 0) (sym (files.spare.settled.only y other)) files.spare.closed).shut)) is
 passes_in disk store s SnapOpening renewing keeps one two x y image other is =
     let files = keeps.files one two in
-    let spare = spare_alone disk store s SnapOpening refl keeps one two in
-    renewed_pass disk store (record s { phase = SnapOpening; broken = false }) files.front x y files.is_front (idle_leaves (disk store.active) files.front (records_of s.sealing) files.active x image) keeps refl (one, two) (spare.images y other) is
+    renewed_pass disk store (record s { phase = SnapOpening; broken = false }) files.front x y files.is_front (idle_leaves (disk store.active) files.front (records_of s.sealing) files.active x image) keeps refl (files.spare.images y other) is
 passes_in disk store s Idle renewing keeps one two x y image other is = absurd (cc)
 passes_in disk store s Written renewing keeps one two x y image other is = absurd (cc)
 passes_in disk store s Bodied renewing keeps one two x y image other is = absurd (cc)

@@ -13,21 +13,19 @@ use Rattle.vault_format.specs.Snapshot.{current_version, HasSnapshot}
 use Rattle.vault_format.specs.Files.{applied}
 use Rattle.vault_store.specs.Phases.{is_idle}
 use Rattle.vault_store.specs.State.{StoreState}
-use Rattle.vault_store.specs.declared.phase.Renewal.TheVariants as renewals
-use Rattle.vault_store.specs.Seen.{StoreSeen, Keeps, AreFiles, IsFollowed, other, settled_reading}
+use Rattle.vault_store.specs.Seen.{StoreSeen, Keeps, AreFiles, other, settled_reading}
 use Rattle.vault_store.specs.Step.{renews, gained, AreNumbers}
-use Rattle.vault_store.proofs.Besides.{not_beside}
 
 -- a state in which all that was sealed is durable
 abbrev pub resting : Vault → Vault → List Effect → StoreState
 resting v noted buffer = record { settled = v; sealed = v; noted = noted; sealing = []; buffer = buffer; phase = Idle; broken = false }
 
-pub rest_kept : {D : Type 0} (disk : D → Disk) (seen : StoreSeen D) (v noted : Vault) (buffer : List Effect) → seen.phase ≡ Idle → seen.beside ≡ renewals.Nothing → seen.broken ≡ false → seen.sealed ≡ 0
+pub rest_kept : {D : Type 0} (disk : D → Disk) (seen : StoreSeen D) (v noted : Vault) (buffer : List Effect) → seen.phase ≡ Idle → seen.broken ≡ false → seen.sealed ≡ 0
     → HasSnapshot v → AreRecordsOf buffer seen.buffer → applied v buffer ≡ Some noted
     → (IsTrue (disk seen.active).honest → IsTrue (disk seen.spare).honest
-    → AreFiles (disk seen.active) (disk seen.spare) (settled_reading seen (resting v noted buffer)) Idle seen.beside false [] seen.shut seen.rest (IsFollowed [] [] seen.from seen.copied))
+    → AreFiles (disk seen.active) (disk seen.spare) (settled_reading seen (resting v noted buffer)) Idle false [] seen.shut seen.rest)
     → Keeps disk seen (resting v noted buffer)
-rest_kept disk seen v noted buffer idle alone whole none spelled records effects files = record {
+rest_kept disk seen v noted buffer idle whole none spelled records effects files = record {
   phase = idle;
   broken = whole;
   spelled = spelled;
@@ -39,14 +37,7 @@ rest_kept disk seen v noted buffer idle alone whole none spelled records effects
   sealed = refl;
   buffer = records;
   noted = effects;
-  frozen = v;
-  since = [];
-  alone = λ snapshot. absurd (false≢true snapshot);
-  renewal = λ is. not_beside seen.beside alone is;
-  all = λ snapshot. absurd (false≢true snapshot);
-  part = λ is. not_beside seen.beside alone is;
-  within = λ is. not_beside seen.beside alone is;
-  whole = λ is both. not_beside seen.beside alone is;
+  renewal = λ snapshot. absurd (false≢true snapshot);
   files = files;
 }
 
@@ -59,8 +50,6 @@ still_numbers old active spare buffer sealed phase broken result still none left
   version = ap (λ (b : Bool). cond b current_version old.version) (sym still);
   generation = ap (λ (b : Bool). cond b (old.generation + 1) old.generation) (sym still);
   tail = let same : old.tail ≡ old.tail + gained old result = omega (arith, none) in same ∙ ap (λ (b : Bool). cond b (length old.rest) (old.tail + gained old result)) (sym still);
-  journal_length = let same : old.journal_length ≡ old.journal_length + gained old result = omega (arith, none) in same ∙ ap (λ (b : Bool). cond b old.copied (old.journal_length + gained old result)) (sym still);
+  journal_length = let same : old.journal_length ≡ old.journal_length + gained old result = omega (arith, none) in same ∙ ap (λ (b : Bool). cond b 0 (old.journal_length + gained old result)) (sym still);
   buffer = left;
-  beside = refl;
-  copied = ap (λ (b : Bool). cond b 0 old.copied) (sym still);
 }

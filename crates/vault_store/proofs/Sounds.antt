@@ -1,5 +1,5 @@
 -- What every store keeps, from step to step.
-use Rattle.std.proofs.Common.{◌≡◌, ℕ, ◌+◌, ◌<◌, ◌≤◌, IsTrue, Bool, true, false, List, [], ◌++◌, length, refl, sym, subst, arith, length-append}
+use Rattle.std.proofs.Common.{◌≡◌, ℕ, ◌+◌, ◌<◌, ◌≤◌, IsTrue, Bool, false, List, [], ◌++◌, length, refl, sym, subst, arith, length-append}
 use Rattle.std.proofs.lemmas.Bool.{false≢true}
 use Rattle.std.proofs.lemmas.Bool.Decides.{nat_tests}
 use Rattle.vault_device.specs.Disk.{Disk}
@@ -9,11 +9,10 @@ use Rattle.vault_store.specs.declared.phase.Phase.TheVariants.{Idle, Written, Bo
 use Rattle.vault_format.specs.Files.{frame_bytes}
 use Rattle.vault_store.specs.Phases.{is_idle, is_snapshot}
 use Rattle.vault_store.specs.OnDisk.{IsOnDisk}
-use Rattle.vault_store.specs.Spares.{IsSpareOn}
+use Rattle.vault_store.specs.Spares.{IsSpareIn, IsSpareOn}
 use Rattle.vault_store.specs.Seen.{StoreSeen, has_room, most_noted, last_tail}
-use Rattle.vault_store.specs.Sound.{IsReached, IsBusy, IsBounded, IsActive, IsSoundStore, is_bare}
-use Rattle.vault_store.specs.Beside.{spare_phase}
-use Rattle.vault_store.proofs.Besides.{commits, spare_still, reached_still, bare_still}
+use Rattle.vault_store.specs.Sound.{IsReached, IsBusy, IsBounded, IsActive, IsSoundStore}
+use Rattle.vault_store.proofs.Asides.{still_aside}
 use Rattle.vault_store.proofs.Kept.{IsMove}
 use Rattle.vault_format.proofs.Frames.{length-frame}
 
@@ -63,12 +62,6 @@ note_sound disk store bytes below sound = record {
   short = sound.short;
   active = sound.active;
   spare = sound.spare;
-  alone = sound.alone;
-  bare = sound.bare;
-  few = sound.few;
-  behind = sound.behind;
-  holds = sound.holds;
-  laned = sound.laned;
 }
 
 module _ {D : Type 0} (disk : D → Disk) (old : StoreSeen D) (active : D) (same : (disk active).honest ≡ (disk old.active).honest) (sound : IsSoundStore disk old) (unbroken : old.broken ≡ false) where
@@ -76,25 +69,16 @@ module _ {D : Type 0} (disk : D → Disk) (old : StoreSeen D) (active : D) (same
   before : (p : Phase) → old.phase ≡ p → IsTrue (disk active).honest → IsActive (disk old.active) old.tail old.sealed p false
   before p is honest = subst (λ (q : Phase). IsActive (disk old.active) old.tail old.sealed q false) is (subst (λ (b : Bool). IsActive (disk old.active) old.tail old.sealed old.phase b) unbroken (sound.active (subst IsTrue same honest)))
 
-  spare_before : (p : Phase) → old.phase ≡ p → IsTrue (disk old.spare).honest → IsSpareOn (λ x. Unit {0}) (disk old.spare) (spare_phase p old.beside) false old.shut old.rest
+  spare_before : (p : Phase) → old.phase ≡ p → IsTrue (disk old.spare).honest → IsSpareIn (λ x. Unit {0}) (disk old.spare) p old.shut old.rest
   spare_before p is honest =
-      subst (λ (q : Phase). IsSpareOn (λ x. Unit {0}) (disk old.spare) (spare_phase q old.beside) false old.shut old.rest) is
-      (subst (λ (b : Bool). IsSpareOn (λ x. Unit {0}) (disk old.spare) (spare_phase old.phase old.beside) b old.shut old.rest) unbroken (sound.spare honest))
-
-  spare_after : (p q : Phase) (broken : Bool) → old.phase ≡ p → is_snapshot p ≡ false → is_snapshot q ≡ false → IsTrue (disk old.spare).honest → IsSpareOn (λ x. Unit {0}) (disk old.spare) (spare_phase q old.beside) broken old.shut old.rest
-  spare_after p q broken is of_p of_q honest = spare_still (λ x. Unit {0}) (λ x closed. tt) (disk old.spare) old.shut old.rest old.beside p q broken of_p of_q (spare_before p is honest)
-
-  reached_after : (q : Phase) → is_snapshot q ≡ false → IsReached (spare_phase q old.beside) old.generation old.rest
-  reached_after q of_q = reached_still old.beside old.phase q old.generation old.rest of_q sound.reached
-
-  bare_after : (q : Phase) → is_snapshot q ≡ false → is_bare (spare_phase q old.beside) ≡ true → old.copied ≡ 0
-  bare_after q of_q = bare_still old.beside old.phase q old.copied of_q sound.bare
+      subst (λ (q : Phase). IsSpareIn (λ x. Unit {0}) (disk old.spare) q old.shut old.rest) is
+      (subst (λ (b : Bool). IsSpareOn (λ x. Unit {0}) (disk old.spare) old.phase b old.shut old.rest) unbroken (sound.spare honest))
 
   -- a step that changes the phase alone
-  pub phase_sound : (p q : Phase) (broken : Bool) → old.phase ≡ p → is_idle p ≡ false → is_idle q ≡ false → is_snapshot p ≡ false → is_snapshot q ≡ false → (IsTrue (disk old.active).honest → IsMove (disk old.active) (disk active) old.tail old.sealed p q broken)
+  pub phase_sound : (p q : Phase) (broken : Bool) → old.phase ≡ p → is_idle p ≡ false → is_idle q ≡ false → is_snapshot p ≡ false → is_snapshot q ≡ false → IsReached q old.generation old.rest → (IsTrue (disk old.active).honest → IsMove (disk old.active) (disk active) old.tail old.sealed p q broken)
       → IsSoundStore disk (record old { active = active; phase = q; broken = broken })
-  phase_sound p q broken is busy still of_p of_q move = record {
-    reached = reached_after q of_q;
+  phase_sound p q broken is busy still of_p of_q reached move = record {
+    reached = reached;
     sealed_fits = sound.sealed_fits;
     bounded = bounded_in q (length old.buffer) old.tail still (busy_in p (length old.buffer) old.tail busy of_p (subst (λ (r : Phase). IsBounded r (length old.buffer) old.tail) is sound.bounded));
     inside = sound.inside;
@@ -107,13 +91,7 @@ module _ {D : Type 0} (disk : D → Disk) (old : StoreSeen D) (active : D) (same
           on_disk = move (subst IsTrue same honest) was.front was.records was.stands was.size was.on_disk;
         };
     short = sound.short;
-    spare = spare_after p q broken is of_p of_q;
-    alone = λ snapshot. commits q snapshot of_q;
-    bare = bare_after q of_q;
-    few = sound.few;
-    behind = sound.behind;
-    holds = sound.holds;
-    laned = sound.laned;
+    spare = λ honest. still_aside (λ x. Unit {0}) (disk old.spare) old.shut old.rest p q broken of_p of_q (spare_before p is honest);
   }
 
   -- the first step of a commit
@@ -121,7 +99,7 @@ module _ {D : Type 0} (disk : D → Disk) (old : StoreSeen D) (active : D) (same
       → (IsTrue (disk old.active).honest → (front : List ℕ) → length front ≡ old.tail → IsOnDisk (disk old.active) Idle false front [] → IsOnDisk (disk active) Written broken front old.buffer)
       → IsSoundStore disk (record old { active = active; buffer = []; sealed = length old.buffer; phase = Written; broken = broken })
   sealed_sound broken is some room move = record {
-    reached = reached_after Written refl;
+    reached = tt;
     sealed_fits = room;
     bounded = (let bound = subst (λ (r : Phase). IsBounded r (length old.buffer) old.tail) is sound.bounded in bound some, λ none. absurd (omega (arith, none)));
     inside = sound.inside;
@@ -134,13 +112,7 @@ module _ {D : Type 0} (disk : D → Disk) (old : StoreSeen D) (active : D) (same
           on_disk = move (subst IsTrue same honest) was.front was.stands was.on_disk;
         };
     short = sound.short;
-    spare = spare_after Idle Written broken is refl refl;
-    alone = λ snapshot. commits Written snapshot refl;
-    bare = bare_after Written refl;
-    few = sound.few;
-    behind = sound.behind;
-    holds = sound.holds;
-    laned = sound.laned;
+    spare = λ honest. still_aside (λ x. Unit {0}) (disk old.spare) old.shut old.rest Idle Written broken refl refl (spare_before Idle is honest);
   }
 
   -- the last step of a commit
@@ -148,7 +120,7 @@ module _ {D : Type 0} (disk : D → Disk) (old : StoreSeen D) (active : D) (same
       → (IsTrue (disk old.active).honest → (front records : List ℕ) → length front ≡ old.tail → IsOnDisk (disk old.active) Opening false front records → IsOnDisk (disk active) Idle false (front ++ frame_bytes records) [])
       → IsSoundStore disk (record old { active = active; tail = tail; journal_length = journal_length; sealed = 0; phase = Idle; broken = false })
   settled_sound tail journal_length tail_is journal_is is move = record {
-    reached = reached_after Idle refl;
+    reached = tt;
     sealed_fits = omega arith;
     bounded = λ some.
         let bound = subst (λ (r : Phase). IsBounded r (length old.buffer) old.tail) is sound.bounded in
@@ -164,13 +136,7 @@ module _ {D : Type 0} (disk : D → Disk) (old : StoreSeen D) (active : D) (same
           on_disk = move (subst IsTrue same honest) was.front was.records was.stands was.on_disk;
         };
     short = sound.short;
-    spare = spare_after Opening Idle false is refl refl;
-    alone = λ snapshot. commits Idle snapshot refl;
-    bare = bare_after Idle refl;
-    few = sound.few;
-    behind = sound.behind;
-    holds = sound.holds;
-    laned = sound.laned;
+    spare = λ honest. still_aside (λ x. Unit {0}) (disk old.spare) old.shut old.rest Opening Idle false refl refl (spare_before Opening is honest);
   }
 
 -- what the test of room says

@@ -15,11 +15,34 @@ use Rattle.vault_store.specs.declared.body.BodyError.TheVariants.{Device, NoMemo
 use Rattle.vault_store.specs.Calls.{HasCause, IsQuiet}
 use Rattle.vault_store.specs.Earlier.{IsEarlier}
 use Rattle.vault_store.specs.Read.{AreReads, IsBaseRead, IsBaseFault, AreContents, IsFaultBehindHead}
-use Rattle.vault_store.specs.TwoVaults.{LeadsTo, AreUnrelated, IsOfAnother, AreOfTwoVaults, IsUnread, AreUnread}
+use Rattle.vault_store.specs.TwoVaults.{LeadsTo, IsBasedOn, AreUnrelated, IsOfAnother, AreOfTwoVaults, IsUnread, AreUnread}
 use Rattle.std.proofs.lemmas.Result.{IfOk-weaker}
 use Rattle.vault_store.proofs.Behind.{honest_behind}
 use Rattle.vault_store.proofs.Bodies.{holds_read}
-use Rattle.vault_store.proofs.Exact.{one_file, wrong_body}
+use Rattle.vault_store.proofs.Exact.{one_file, wrong_body, snapshot_right}
+
+-- a file of which a snapshot and a byte behind it are known
+module _ (generation : ℕ) (file : List ℕ) (base : Vault) (is : IsBasedOn generation file base) where
+  based_whole : file ≡ head_of is.version generation ++ (in_four (length (spelling_of is.version base)) ++ (spelling_of is.version base ++ is.rest))
+  based_whole =
+      is.bytes ∙ append_assoc (head_of is.version generation) (snapshot_bytes is.version base) is.rest
+      ∙ ap (λ (l : List ℕ). head_of is.version generation ++ l) (append_assoc (in_four (length (spelling_of is.version base))) (spelling_of is.version base) is.rest)
+
+  has_rest : 1 ≤ length is.rest
+  has_rest = by_rest is.rest is.some
+    where
+      by_rest : (l : List ℕ) → l ≢ [] → 1 ≤ length l
+      by_rest [] some = absurd (some refl)
+      by_rest (x ∷ l) some = omega arith
+
+  -- no fault is in the snapshot
+  pub none_based : (at : ℕ) → IsBaseFault file at → ⊥
+  none_based at fault =
+      snapshot_right is.version file generation base is.rest is.spelled has_rest based_whole at (fault is.version (version_told file generation is.head))
+
+pub one_based : (file : List ℕ) (g k : ℕ) (base other : Vault) → IsBasedOn g file base → IsBasedOn k file other → base ≡ other
+one_based file g k base other is also =
+    (one_base is.version also.version g k base other is.rest also.rest is.spelled also.spelled (sym (based_whole g file base is) ∙ based_whole k file other also)).1
 
 -- a file leads to one vault
 pub one_led : (file : List ℕ) (g k : ℕ) (v w : Vault) → LeadsTo g file v → LeadsTo k file w → v ≡ w
@@ -36,24 +59,36 @@ pub led : (disk : Disk) (version : FileVersion) (v : Vault) (frames tail journal
 led disk version v frames tail journal_length g contents honest head =
     (record { vault = v; version = version; generation = g; tail = tail; journal_length = journal_length }, holds_read disk version v frames tail journal_length g contents honest head, refl, refl)
 
+pub based : (disk : Disk) (len : ℕ) (version : FileVersion) (base : Vault) (end g : ℕ) → IsBaseRead disk len version base end → IsTrue disk.honest → len ≡ length disk.shown → HasRightHead g disk.shown → IsBasedOn g disk.shown base
+based disk len version base end g read honest size (w, head) =
+    let same : w ≡ version = told_once w version (version_in disk.shown) (version_told disk.shown g head) (read.told honest) in
+    let here = subst (λ (n : FileVersion). HasHead n g disk.shown) same head in record {
+      version = version;
+      rest = drop end disk.shown;
+      head = here;
+      spelled = read.spelled;
+      some = λ none. absurd (omega (arith, ap length none, length-drop end disk.shown, size, read.within));
+      bytes = sym (take-append-drop end disk.shown) ∙ ap (λ (l : List ℕ). l ++ drop end disk.shown) (read.bytes honest ∙ ap (λ (l : List ℕ). l ++ snapshot_bytes version base) here.head);
+    }
+
 -- what two vaults that were read decide
-pub decided : (older newer : List ℕ) (g : ℕ) (v latest : Vault) (earlier : Bool) → LeadsTo g older v → LeadsTo (g + 1) newer latest → IsTrue earlier ↔ IsEarlier v latest → IsTrue (not earlier) ↔ AreUnrelated older newer
-decided older newer g v latest true leads leads_newer is = (
+pub decided : (older newer : List ℕ) (g : ℕ) (v base : Vault) (earlier : Bool) → LeadsTo g older v → IsBasedOn (g + 1) newer base → IsTrue earlier ↔ IsEarlier v base → IsTrue (not earlier) ↔ AreUnrelated older newer
+decided older newer g v base true leads based is = (
   λ isnt. absurd (cc),
   λ unrelated.
       absurd (unrelated.not_earlier
-      (subst (λ (w : Vault). IsEarlier w unrelated.latest) (one_led older g unrelated.generation v unrelated.vault leads unrelated.leads)
-      (subst (λ (b : Vault). IsEarlier v b) (one_led newer (g + 1) (unrelated.generation + 1) latest unrelated.latest leads_newer unrelated.leads_newer) (is.0 refl)))),
+      (subst (λ (w : Vault). IsEarlier w unrelated.base) (one_led older g unrelated.generation v unrelated.vault leads unrelated.leads)
+      (subst (λ (b : Vault). IsEarlier v b) (one_based newer (g + 1) (unrelated.generation + 1) base unrelated.base based unrelated.based) (is.0 refl)))),
 )
-decided older newer g v latest false leads leads_newer is =
-    (λ holds. record { generation = g; vault = v; latest = latest; leads = leads; leads_newer = leads_newer; not_earlier = λ earlier. let e = is.1 earlier in cc }, λ unrelated. refl)
+decided older newer g v base false leads based is =
+    (λ holds. record { generation = g; vault = v; base = base; leads = leads; based = based; not_earlier = λ earlier. let e = is.1 earlier in cc }, λ unrelated. refl)
 
--- a file that can't be read decides nothing
+-- an older file that can't be read decides nothing, nor does a newer one whose snapshot can't
 pub unread_older : (older newer : List ℕ) → ((g : ℕ) (v : Vault) → LeadsTo g older v → ⊥) → IsTrue false ↔ AreUnrelated older newer
 unread_older older newer none = (λ isnt. absurd (cc), λ unrelated. absurd (none unrelated.generation unrelated.vault unrelated.leads))
 
-pub unread_newer : (older newer : List ℕ) → ((g : ℕ) (v : Vault) → LeadsTo g newer v → ⊥) → IsTrue false ↔ AreUnrelated older newer
-unread_newer older newer none = (λ isnt. absurd (cc), λ unrelated. absurd (none (unrelated.generation + 1) unrelated.latest unrelated.leads_newer))
+pub unread_newer : (older newer : List ℕ) → ((g : ℕ) (v : Vault) → IsBasedOn g newer v → ⊥) → IsTrue false ↔ AreUnrelated older newer
+unread_newer older newer none = (λ isnt. absurd (cc), λ unrelated. absurd (none (unrelated.generation + 1) unrelated.base unrelated.based))
 
 -- both are open, and the generations rise
 pub record AreOpen (older newer : List ℕ) : Type 0 where
@@ -67,13 +102,12 @@ pub are_open : (older newer : List ℕ) → IsOfAnother older newer → AreOpen 
 are_open older newer (inl far) = record { lower = far.lower; higher = far.higher; older_head = far.older_head; newer_head = far.newer_head; rises = let more = far.far in omega (arith, more) }
 are_open older newer (inr unrelated) =
     let leads = unrelated.leads in
-    let newer_leads = unrelated.leads_newer in
     let head = holds_head older leads.0 leads.1 in record {
       lower = leads.0.generation;
-      higher = newer_leads.0.generation;
+      higher = unrelated.generation + 1;
       older_head = (leads.0.version, head);
-      newer_head = (newer_leads.0.version, holds_head newer newer_leads.0 newer_leads.1);
-      rises = omega (arith, leads.2, newer_leads.2);
+      newer_head = (unrelated.based.version, unrelated.based.head);
+      rises = omega (arith, leads.2);
     }
 
 -- a generation lies between

@@ -2,16 +2,11 @@ pub mod Phases
 pub mod State
 pub mod OnDisk
 pub mod Spares
-pub mod Beside
 pub mod Seen
 pub mod Sound
 pub mod View
-pub mod LaneSeen
-pub mod InLane
 pub mod Calls
 pub mod Step
-pub mod Copies
-pub mod BesideStep
 pub mod Create
 pub mod Opening
 pub mod Parts

@@ -1,7 +1,6 @@
 -- What contracts see of a store, and how it keeps vaults. This project's own.
-use Rattle.std.specs.Prelude.{◌≡◌, ◌≢◌, ◌⊎◌, ℕ, ◌+◌, ◌<◌, ◌≤◌, ◌^◌, IsTrue, Bool, true, false, not, ◌&&◌, ◌||◌, nat_le, nat_lt, if◌then◌else◌, List, [], ◌∷◌, ◌++◌, length, take, slice_index, Some}
+use Rattle.std.specs.Prelude.{◌≡◌, ◌≢◌, ◌⊎◌, ℕ, ◌+◌, ◌<◌, ◌≤◌, ◌^◌, IsTrue, Bool, true, false, ◌&&◌, ◌||◌, nat_le, nat_lt, if◌then◌else◌, List, [], length, slice_index, Some}
 use Rattle.std.specs.List.{AllByRecursion}
-use Rattle.vault_model.specs.Said.{Effect}
 use Rattle.vault_state.specs.Vault.{Vault}
 use Rattle.vault_device.specs.Disk.{Disk}
 use Rattle.vault_journal.specs.Spelling.{records_of, HasRecord}
@@ -12,12 +11,9 @@ use Rattle.vault_store.specs.declared.opening.File.{File}
 use Rattle.vault_store.specs.declared.opening.File.TheVariants.{First, Second}
 use Rattle.vault_store.specs.declared.phase.Phase.{Phase}
 use Rattle.vault_store.specs.declared.phase.Phase.TheVariants.{Idle, Start}
-use Rattle.vault_store.specs.declared.phase.Renewal.{Renewal}
-use Rattle.vault_store.specs.declared.phase.Renewal.TheVariants as renewals
 use Rattle.vault_format.specs.Snapshot.{current_version, snapshot_of, HasSnapshot}
-use Rattle.vault_format.specs.Files.{header, most_records, frame_extra, frame_of, frames_bytes, applied, after_frames, Reading, IsFrame, IsFront, IsSpare, AreRead, behind_gate}
+use Rattle.vault_format.specs.Files.{header, most_records, frame_extra, applied, Reading, IsFront, IsSpare, AreRead, behind_gate}
 use Rattle.vault_store.specs.Phases.{is_idle, is_snapshot, is_opening, may_open}
-use Rattle.vault_store.specs.Beside.{is_beside, spare_phase, renewed_bytes}
 use Rattle.vault_store.specs.State.{StoreState}
 use Rattle.vault_store.specs.OnDisk.{IsOnDisk}
 use Rattle.vault_store.specs.declared.store.TheConstants.{MAX_NOTED}
@@ -26,8 +22,7 @@ use Rattle.vault_store.specs.Spares.{IsSpareOn}
 -- the devices of the active file and of its spare, and which file is the active one; the bytes of the records in the open buffer, and
 -- how many bytes the records of the frame under way have; of the active file its version and its generation, where its tail gate
 -- stands, and how many bytes its frames have; the phase; whether a device call failed; whether the spare file's head gate is known to be
--- closed, and the bytes that a snapshot writes behind it; how far a snapshot beside commits has come, where the bytes of frames stand that
--- it copies next, and how many it copied; and how many bytes its buffer for them has
+-- closed; and the bytes that a snapshot writes behind it
 pub record StoreSeen (D : Type 0) : Type 0 where
   pub active : D
   pub spare : D
@@ -42,10 +37,6 @@ pub record StoreSeen (D : Type 0) : Type 0 where
   pub broken : Bool
   pub shut : Bool
   pub rest : List ℕ
-  pub beside : Renewal
-  pub from : ℕ
-  pub copied : ℕ
-  pub lane : ℕ
 
 -- the one if the file is the first, else the other: of (the first file's, the second's) the active file's, and of (the active file's,
 -- the spare's) the first file's
@@ -94,8 +85,8 @@ counted_reading renews store s = record {
   vault = s.sealed;
   version = if renews then current_version else store.version;
   generation = if renews then store.generation + 1 else store.generation;
-  tail = if renews then length store.rest else store.tail + frame_extra + store.sealed;
-  journal_length = if renews then store.copied else store.journal_length + frame_extra + store.sealed;
+  tail = if renews then header + length (snapshot_of s.sealed) else store.tail + frame_extra + store.sealed;
+  journal_length = if renews then 0 else store.journal_length + frame_extra + store.sealed;
 }
 
 -- what opening reads once all that is under way counts
@@ -111,40 +102,19 @@ abbrev pub gated : {A : Type 0} → Phase → A → A → A
 gated phase active spare = if is_snapshot phase then spare else active
 
 -- the files of a store, of honest devices
-pub record AreFiles (active_disk spare_disk : Disk) (settled : Reading) (phase : Phase) (beside : Renewal) (broken : Bool) (records : List ℕ)
-    (shut : Bool) (rest : List ℕ) (Follows : List ℕ → Type 0) : Type 0 where
+pub record AreFiles (active_disk spare_disk : Disk) (settled : Reading) (phase : Phase) (broken : Bool) (records : List ℕ) (shut : Bool)
+    (rest : List ℕ) : Type 0 where
   -- the bytes up to the tail gate
   pub front : List ℕ
   pub is_front : IsFront front settled
   pub active : IsOnDisk active_disk phase broken front records
-  pub spare : IsSpareOn (IsSpare settled.generation) spare_disk (spare_phase phase beside) broken shut rest
-  -- what is known of the front while a snapshot is written beside commits
-  pub follows : is_beside beside ≡ true → Follows front
+  pub spare : IsSpareOn (IsSpare settled.generation) spare_disk phase broken shut rest
 
--- The snapshot under way: the frozen vault has a spelling, which is written in a file of the next generation, and the frames since lead
--- from it to the sealed vault. The file has the spelling and what was copied of the frames.
-pub record IsRenewal (generation : ℕ) (frozen : Vault) (since : List (List Effect)) (sealed : Vault) (copied : ℕ) (rest : List ℕ) : Type 0 where
-  pub spelled : HasSnapshot frozen
+-- The snapshot under way: the sealed vault has a spelling, which is written in a file of the next generation.
+pub record IsRenewal (generation : ℕ) (sealed : Vault) (rest : List ℕ) : Type 0 where
+  pub spelled : HasSnapshot sealed
   pub fits : generation + 1 < 2 ^ 64
-  pub each : AllByRecursion IsFrame since
-  pub leads : after_frames frozen since ≡ Some sealed
-  pub size : length rest ≡ header + length (snapshot_of frozen) + copied
-
--- the frame under way, if there is one
-abbrev pub frame_under_way : List Effect → List ℕ
-frame_under_way [] = []
-frame_under_way (effect ∷ effects) = frame_of (effect ∷ effects)
-
--- where the next frame begins, behind the one under way
-abbrev pub behind_frames : {D : Type 0} → StoreSeen D → ℕ
-behind_frames store = if is_idle store.phase then store.tail else store.tail + frame_extra + store.sealed
-
--- The frames since the freeze stand behind some bytes, up to the end of the frame under way. Of their bytes so many were copied that the
--- next stands at this offset.
-pub record IsFollowed (sealing : List Effect) (since : List (List Effect)) (from copied : ℕ) (front : List ℕ) : Type 0 where
-  pub head : List ℕ
-  pub size : length head + copied ≡ from
-  pub bytes : front ++ frame_under_way sealing ≡ head ++ frames_bytes since
+  pub bytes : rest ≡ behind_gate (generation + 1) sealed
 
 -- whether a version is not today's
 abbrev pub is_old : FileVersion → Bool
@@ -155,41 +125,19 @@ is_old Two = false
 abbrev pub long_journal : ℕ
 long_journal = 1048576
 
--- whether no commit and no snapshot is under way, and a snapshot is wanted: the frames are that long, or the active file's version is not
--- today's
+-- whether nothing is under way, and a snapshot is wanted: the frames are that long, or the active file's version is not today's
 abbrev pub wants_snapshot : {D : Type 0} → StoreSeen D → Bool
-wants_snapshot store =
-    is_idle store.phase && not (is_beside store.beside) && (nat_le long_journal store.journal_length || is_old store.version)
+wants_snapshot store = is_idle store.phase && (nat_le long_journal store.journal_length || is_old store.version)
 
 -- whether a snapshot may be begun: nothing is under way, no device call failed, and there is a next generation
 pub record MayStart {D : Type 0} (store : StoreSeen D) : Type 0 where
   pub idle : store.phase ≡ Idle
-  pub alone : store.beside ≡ renewals.Nothing
   pub whole : store.broken ≡ false
   pub fits : store.generation + 1 < 2 ^ 64
 
 -- a snapshot of this vault is begun
 abbrev pub started_seen : {D : Type 0} → StoreSeen D → Vault → StoreSeen D
-started_seen store v = record store { buffer = []; phase = Start; rest = behind_gate (store.generation + 1) v; copied = 0 }
-
--- Whether a snapshot may be begun beside commits: no snapshot is under way, no device call failed, all that was noted is in frames, a
--- frame may begin, and there is a next generation. A commit may be under way.
-pub record MayFreeze {D : Type 0} (store : StoreSeen D) : Type 0 where
-  pub commit : is_snapshot store.phase ≡ false
-  pub alone : store.beside ≡ renewals.Nothing
-  pub whole : store.broken ≡ false
-  pub framed : store.buffer ≡ []
-  pub low : store.tail < last_tail
-  pub fits : store.generation + 1 < 2 ^ 64
-
--- how many bytes of frames one step copies at most, and one for the closed gate behind them
-abbrev pub most_copied : ℕ
-most_copied = 65537
-
--- a snapshot of this vault is begun beside commits: all frames up to here are in it
-abbrev pub frozen_seen : {D : Type 0} → StoreSeen D → Vault → StoreSeen D
-frozen_seen store v =
-    record store { rest = behind_gate (store.generation + 1) v; beside = renewals.Start; from = behind_frames store; copied = 0; lane = most_copied }
+started_seen store v = record store { buffer = []; phase = Start; rest = behind_gate (store.generation + 1) v }
 
 -- how many bytes of records the frame under way has; a snapshot writes none
 abbrev pub framed_bytes : StoreState → ℕ
@@ -210,22 +158,10 @@ pub record Keeps {D : Type 0} (disk : D → Disk) (store : StoreSeen D) (s : Sto
   -- the effects behind them
   pub buffer : AreRecordsOf s.buffer store.buffer
   pub noted : applied s.sealed s.buffer ≡ Some s.noted
-  -- the vault that the snapshot under way is of, and the frames since
-  pub frozen : Vault
-  pub since : List (List Effect)
-  pub alone : is_snapshot s.phase ≡ true → store.beside ≡ renewals.Nothing
-  pub renewal : (is_snapshot s.phase || is_beside store.beside) ≡ true
-      → IsRenewal store.generation frozen since s.sealed store.copied store.rest
-  pub all : is_snapshot s.phase ≡ true → store.copied ≡ length (frames_bytes since)
-  pub part : is_beside store.beside ≡ true
-      → store.from + length (frames_bytes since) ≡ store.tail + length (frame_under_way s.sealing) + store.copied
-  pub within : is_beside store.beside ≡ true → store.copied ≤ length (frames_bytes since)
-  pub whole : (is_snapshot s.phase || is_beside store.beside) ≡ true
-      → IsTrue (disk store.active).honest × IsTrue (disk store.spare).honest
-      → store.rest ≡ renewed_bytes (store.generation + 1) frozen (take store.copied (frames_bytes since))
+  pub renewal : is_snapshot s.phase ≡ true → IsRenewal store.generation s.sealed store.rest
   pub files : IsTrue (disk store.active).honest → IsTrue (disk store.spare).honest
-      → AreFiles (disk store.active) (disk store.spare) (settled_reading store s) s.phase store.beside s.broken
-      (records_of s.sealing) store.shut store.rest (IsFollowed s.sealing since store.from store.copied)
+      → AreFiles (disk store.active) (disk store.spare) (settled_reading store s) s.phase s.broken
+      (records_of s.sealing) store.shut store.rest
 
 -- what two files are read as, by the gate that is being opened in one of them
 pub record IsByGate (gate : ℕ) (settled sealed : Reading) (file first second : List ℕ) : Type 0 where

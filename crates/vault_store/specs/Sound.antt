@@ -1,16 +1,13 @@
 -- What every store keeps, of its numbers and of the bytes of its files. This project's own.
-use Rattle.std.specs.Prelude.{◌≡◌, ℕ, ◌+◌, ◌<◌, ◌≤◌, ◌^◌, IsTrue, Bool, true, false, List, [], ◌∷◌, ◌++◌, length}
+use Rattle.std.specs.Prelude.{◌≡◌, ℕ, ◌+◌, ◌<◌, ◌≤◌, ◌^◌, IsTrue, Bool, List, [], ◌∷◌, ◌++◌, length}
 use Rattle.vault_device.specs.Disk.{Disk}
 use Rattle.vault_journal.specs.Gate.{frame_room}
 use Rattle.vault_store.specs.declared.phase.Phase.{Phase}
 use Rattle.vault_store.specs.declared.phase.Phase.TheVariants.{Idle, Written, Bodied, Opening, Start, Closing, Writing, Filled, Ready, SnapOpening}
-use Rattle.vault_store.specs.declared.phase.Renewal.TheVariants.{Nothing}
 use Rattle.vault_format.specs.Files.{frame_extra}
-use Rattle.vault_store.specs.Beside.{is_beside, spare_phase}
 use Rattle.vault_store.specs.OnDisk.{IsOnDisk}
-use Rattle.vault_store.specs.Phases.{is_snapshot}
 use Rattle.vault_store.specs.Spares.{IsSpareOn}
-use Rattle.vault_store.specs.Seen.{StoreSeen, last_tail, most_copied}
+use Rattle.vault_store.specs.Seen.{StoreSeen, last_tail}
 
 -- what a snapshot writes ends with a closed tail gate, and there is a next generation
 pub record IsRest (generation : ℕ) (rest : List ℕ) : Type 0 where
@@ -28,26 +25,15 @@ IsReached Ready generation rest = IsRest generation rest
 IsReached SnapOpening generation rest = IsRest generation rest
 IsReached _ generation rest = Unit {0}
 
--- none of the frames is copied while the snapshot isn't written
-abbrev pub is_bare : Phase → Bool
-is_bare Start = true
-is_bare Closing = true
-is_bare (Writing left) = true
-is_bare _ = false
-
--- The tail gate stands before this offset where a frame is written. Of a snapshot with frames copied behind it it may stand behind the
--- last offset where frames may begin.
-abbrev pub most_tail : ℕ
-most_tail = 2 ^ 62 + 2 ^ 34
-
 -- the bounds of a frame under way
 abbrev pub IsBusy : ℕ → ℕ → Type 0
-IsBusy waiting tail = (tail < most_tail) × (0 < waiting → tail < last_tail)
+IsBusy waiting tail = (tail < last_tail + frame_room) × (0 < waiting → tail < last_tail)
 
--- If records wait or a frame is under way, the tail gate stands at most 2^34 behind the last offset where frames may begin. While
--- a frame is under way, records are noted only if its gate stands where frames may begin. A snapshot moves the gate to the front.
+-- If records wait or a frame is under way, the tail gate stands at most one frame behind the last offset where frames may
+-- begin. While a frame is under way, records are noted only if its gate stands where frames may begin. A snapshot moves the
+-- gate to the front.
 abbrev pub IsBounded : Phase → ℕ → ℕ → Type 0
-IsBounded Idle waiting tail = 0 < waiting → tail < most_tail
+IsBounded Idle waiting tail = 0 < waiting → tail < last_tail + frame_room
 IsBounded Written waiting tail = IsBusy waiting tail
 IsBounded Bodied waiting tail = IsBusy waiting tail
 IsBounded Opening waiting tail = IsBusy waiting tail
@@ -63,18 +49,11 @@ pub record IsActive (disk : Disk) (tail sealed : ℕ) (phase : Phase) (broken : 
 
 -- what every store keeps
 pub record IsSoundStore {D : Type 0} (disk : D → Disk) (store : StoreSeen D) : Type 0 where
-  -- invariants 1 to 8 of src/lib.rt, in this order
-  pub reached : IsReached (spare_phase store.phase store.beside) store.generation store.rest
+  -- invariants 1 to 7 of src/lib.rt, in this order
+  pub reached : IsReached store.phase store.generation store.rest
   pub sealed_fits : store.sealed + frame_extra ≤ frame_room
   pub bounded : IsBounded store.phase (length store.buffer) store.tail
   pub inside : store.journal_length ≤ store.tail
-  pub short : length store.rest < 2 ^ 33 + store.copied
+  pub short : length store.rest < 2 ^ 33
   pub active : IsTrue (disk store.active).honest → IsActive (disk store.active) store.tail store.sealed store.phase store.broken
-  pub spare : IsTrue (disk store.spare).honest
-      → IsSpareOn (λ x. Unit {0}) (disk store.spare) (spare_phase store.phase store.beside) store.broken store.shut store.rest
-  pub alone : is_snapshot store.phase ≡ true → store.beside ≡ Nothing
-  pub bare : is_bare (spare_phase store.phase store.beside) ≡ true → store.copied ≡ 0
-  pub few : store.copied ≤ last_tail
-  pub behind : store.copied ≤ store.from
-  pub holds : store.copied ≤ length store.rest
-  pub laned : is_beside store.beside ≡ true → store.lane ≡ most_copied
+  pub spare : IsTrue (disk store.spare).honest → IsSpareOn (λ x. Unit {0}) (disk store.spare) store.phase store.broken store.shut store.rest

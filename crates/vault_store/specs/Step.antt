@@ -37,19 +37,15 @@ gained old (Ok answers.Settled) = frame_extra + old.sealed
 gained old _ = 0
 
 -- The active file, its version and its numbers after a step: the last one of a commit moves the tail gate behind the frame; the last
--- one of a snapshot exchanges the files, the new active one is of today's version, and its tail gate stands behind the snapshot and the
--- frames that were copied; the
--- first one of a commit empties the buffer, also if its device call fails; no other changes them. None changes how far a snapshot beside
--- commits has come.
+-- one of a snapshot exchanges the files, the new active one is of today's version, and its tail gate stands behind the snapshot; the
+-- first one of a commit empties the buffer, also if its device call fails; no other changes them.
 pub record AreNumbers {D : Type 0} (old new : StoreSeen D) (result : Result Advanced Fault) : Type 0 where
   pub which : new.which ≡ (if renews old result then other old.which else old.which)
   pub version : new.version ≡ (if renews old result then current_version else old.version)
   pub generation : new.generation ≡ (if renews old result then old.generation + 1 else old.generation)
   pub tail : new.tail ≡ (if renews old result then length old.rest else old.tail + gained old result)
-  pub journal_length : new.journal_length ≡ (if renews old result then old.copied else old.journal_length + gained old result)
+  pub journal_length : new.journal_length ≡ (if renews old result then 0 else old.journal_length + gained old result)
   pub buffer : new.buffer ≡ (if is_idle old.phase && not old.broken then [] else old.buffer)
-  pub beside : new.beside ≡ old.beside
-  pub copied : new.copied ≡ (if renews old result then 0 else old.copied)
 
 -- what a crash inside a step may leave of two devices
 abbrev pub MayBeLeft : Disk → Disk → Disk → Disk → List ℕ → List ℕ → Type 0

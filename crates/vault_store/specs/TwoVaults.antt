@@ -1,9 +1,11 @@
 -- Two files that are of two vaults. This project's own.
-use Rattle.std.specs.Prelude.{◌≡◌, ◌⊎◌, ℕ, ◌+◌, ◌<◌, Bool, true, false, List, Option, Some, None}
+use Rattle.std.specs.Prelude.{◌≡◌, ◌≢◌, ◌⊎◌, ℕ, ◌+◌, ◌<◌, Bool, true, false, List, [], ◌++◌, Option, Some, None}
 use Rattle.vault_model.specs.Said.{Effect}
 use Rattle.vault_state.specs.Vault.{Vault}
 use Rattle.vault_device.specs.Disk.{Disk, IsTorn}
-use Rattle.vault_format.specs.Files.{applied, Reading, Holds, IsClosedFile, HasRightHead}
+use Rattle.vault_format.specs.declared.version.FileVersion.{FileVersion}
+use Rattle.vault_format.specs.Snapshot.{HasSpelling}
+use Rattle.vault_format.specs.Files.{head_of, snapshot_bytes, applied, Reading, Holds, IsClosedFile, HasHead, HasRightHead}
 use Rattle.vault_store.specs.declared.body.BodyError.{BodyError}
 use Rattle.vault_store.specs.declared.body.BodyError.TheVariants.{Device, NoMemory}
 use Rattle.vault_store.specs.declared.phase.Phase.{Phase}
@@ -18,14 +20,23 @@ use Rattle.vault_store.specs.Earlier.{IsEarlier}
 abbrev pub LeadsTo : ℕ → List ℕ → Vault → Type 0
 LeadsTo generation file vault = (reading : Reading) × Holds file reading × (reading.generation ≡ generation) × (reading.vault ≡ vault)
 
--- the older file, of the generation before, leads to a vault that is no earlier state of what the newer one leads to
+-- the snapshot of a file of this generation is of this vault, and a byte stands behind it
+pub record IsBasedOn (generation : ℕ) (file : List ℕ) (base : Vault) : Type 0 where
+  pub version : FileVersion
+  pub rest : List ℕ
+  pub head : HasHead version generation file
+  pub spelled : HasSpelling version base
+  pub some : rest ≢ []
+  pub bytes : file ≡ (head_of version generation ++ snapshot_bytes version base) ++ rest
+
+-- the older file, of the generation before, leads to a vault that is no earlier state of the newer one's snapshot
 pub record AreUnrelated (older newer : List ℕ) : Type 0 where
   pub generation : ℕ
   pub vault : Vault
-  pub latest : Vault
+  pub base : Vault
   pub leads : LeadsTo generation older vault
-  pub leads_newer : LeadsTo (generation + 1) newer latest
-  pub not_earlier : IsEarlier vault latest → ⊥
+  pub based : IsBasedOn (generation + 1) newer base
+  pub not_earlier : IsEarlier vault base → ⊥
 
 -- both are open, and a generation lies between theirs
 pub record AreFarApart (older newer : List ℕ) : Type 0 where
@@ -54,6 +65,11 @@ abbrev pub IsLedTo : List ℕ → Option Vault → Type 0
 IsLedTo file (Some vault) = (generation : ℕ) → HasRightHead generation file → LeadsTo generation file vault
 IsLedTo file None = (generation : ℕ) (vault : Vault) → LeadsTo generation file vault → ⊥
 
+-- the vault of its snapshot, if it has one
+abbrev pub IsBaseOf : List ℕ → Option Vault → Type 0
+IsBaseOf file (Some base) = (generation : ℕ) → HasRightHead generation file → IsBasedOn generation file base
+IsBaseOf file None = (generation : ℕ) (base : Vault) → IsBasedOn generation file base → ⊥
+
 -- why a file was not read: a call failed, or an allocation was refused and no call failed
 abbrev pub IsUnread : Disk → Disk → BodyError → Type 0
 IsUnread old new Device = HasCause old new
@@ -70,10 +86,10 @@ AreUnread first second first_new second_new NoMemory = AreQuiet first second fir
 abbrev pub ClosedFilesPass : Type 0
 ClosedFilesPass = (first second : List ℕ) → IsClosedFile first ⊎ IsClosedFile second → AreOfTwoVaults first second → ⊥
 
--- so they do with more frames behind the newer one, which lead to a later vault: a commit changes nothing
-abbrev pub FramesPass : Type 0
-FramesPass = (older newer longer : List ℕ) (generation : ℕ) (latest later : Vault) → LeadsTo generation newer latest
-    → LeadsTo generation longer later → IsEarlier latest later → (IsOfAnother older newer → ⊥) → IsOfAnother older longer → ⊥
+-- what stands behind the newer file's snapshot decides nothing, so a commit changes nothing
+abbrev pub FramesLeaveIt : Type 0
+FramesLeaveIt = (older newer longer : List ℕ) (generation : ℕ) (base : Vault) → IsBasedOn generation newer base
+    → IsBasedOn generation longer base → (IsOfAnother older newer → IsOfAnother older longer) × (IsOfAnother older longer → IsOfAnother older newer)
 
 -- nor does the first call of a snapshot, whatever a crash leaves of it
 abbrev pub TornGatesPass : Type 0
@@ -88,7 +104,7 @@ is_renewing Ready = true
 is_renewing SnapOpening = true
 is_renewing _ = false
 
--- whatever a crash leaves there passes: the older file leads to an earlier state of the new one's vault
+-- whatever a crash leaves there passes: the older file leads to an earlier state of the new snapshot's vault
 abbrev pub SnapshotsPass : {D : Type 0} → (D → Disk) → Type 0
 SnapshotsPass {D} disk = (store : StoreSeen D) (s : StoreState) (x y : List ℕ) → Keeps disk store s → AreHonest disk store → s.broken ≡ false
     → is_renewing s.phase ≡ true → (disk (first_of store)).IsImage x → (disk (second_of store)).IsImage y → AreOfTwoVaults x y → ⊥

@@ -1,4 +1,6 @@
 -- What contracts see of a store's fields.
+use Rattle.std.specs.Prelude.{[]}
+use Rattle.std.specs.Option.{option_map_or}
 use Rattle.vault_store.specs.declared.store.Store.TheInside.{Inside}
 use Rattle.vault_store.specs.Seen.{StoreSeen}
 
@@ -16,9 +18,5 @@ seen_of store = record {
   phase = store.phase;
   broken = store.broken;
   shut = store.spare_shut;
-  rest = store.lane.bytes;
-  beside = store.beside;
-  from = store.from;
-  copied = store.lane.copied;
-  lane = store.lane.room;
+  rest = option_map_or (λ v. v.items) store.rest [];
 }

@@ -52,13 +52,13 @@ impl From<Fault> for ReadError {
 
 /// The snapshot of a file.
 #[derive(Drop)]
-struct Base<A: Allocator> {
+pub struct Base<A: Allocator> {
     /// The version that the head gives.
-    version: FileVersion,
+    pub version: FileVersion,
     /// The vault that the snapshot is of.
-    book: Book<A>,
+    pub book: Book<A>,
     /// Where the frames begin behind it.
-    end: u64,
+    pub end: u64,
 }
 
 // Behind the head: the snapshot, the frames, and the tail gate. The head has at 8 the version, which says how the snapshot is spelled,
@@ -103,6 +103,24 @@ fn read_base<D: Device, A: Allocator + Copy>(
         }),
         None => Err(ReadError::Damaged(HEADER)),
     }
+}
+
+/// Reads the snapshot of a file. The head must be right, as for `read_body`, and the cost is that of `read_body` without the frames.
+pub fn read_first_base<D: Device, A: Allocator + Copy>(
+    alloc: A,
+    device: &mut D,
+) -> Result<Base<A>, ReadError>
+    ensures reads { AreReads (D.disk device.old) (D.disk device.new) }
+    ensures base { IsTrue (D.disk device.old).honest
+        → IfOk result (λ base. IsBaseRead (D.disk device.old) (length (D.disk device.old).shown) base.version base.book base.end) }
+    ensures refused { IfErr result (λ why. IsWhy (D.disk device.old) (D.disk device.new) (IsBaseFault (D.disk device.old).shown) why) }
+    ensures quiet { OnOk result (IsQuiet (D.disk device.old) (D.disk device.new)) }
+{
+    let len = device.len()?;
+    if len < HEADER {
+        return Err(ReadError::Damaged(20));
+    }
+    read_base(alloc, device, len)
 }
 
 /// What stands in a file behind its head.

@@ -2,7 +2,6 @@
 ghost use Rattle.std.specs.Prelude.{◌≡◌, ◌↔◌, [], IfOk, OnOk, OnErr, IfErr, IsTrue};
 ghost use Rattle.vault_state.specs.Vault.{new_vault};
 ghost use Rattle.vault_store.specs.declared.creation.CreateError.TheVariants.{Device as DeviceFailed, NoMemory as Wanted};
-ghost use Rattle.vault_store.specs.declared.phase.Renewal.TheVariants.{Nothing};
 ghost use Rattle.vault_device.specs.Disk.{LeavesOnly, LeavesSince};
 ghost use Rattle.vault_store.specs.Calls.{AreCalls, IsCalled, AreQuiet};
 ghost use Rattle.vault_store.specs.OnDisk.{IsSettled};
@@ -13,8 +12,7 @@ ghost use Rattle.vault_store.specs.State.{at_rest};
 ghost use Rattle.vault_store.specs.Seen.{first_of, second_of, Keeps};
 
 use crate::calls::{is_empty, settle, write_settled};
-use crate::lane::Lane;
-use crate::{File, FileVersion, Phase, Refused, Renewal, Store};
+use crate::{File, FileVersion, Phase, Refused, Store};
 use std::alloc::Allocator;
 use thiserror::Error;
 use vault_device::{Device, Fault};
@@ -132,7 +130,6 @@ impl<D: Device, A: Allocator> Store<D, A> {
     pub fn create(alloc: A, first: D, second: D) -> Result<Store<D, A>, Refused<D, CreateError>>
         ensures kept { IfOk result (λ store. Keeps D.disk store (at_rest new_vault)) }
         ensures version { IfOk result (λ store. store.version ≡ current_version) }
-        ensures alone { IfOk result (λ store. (store.beside ≡ Nothing) × (store.copied ≡ 0)) }
         ensures numbers { IfOk result (λ store. (store.generation ≡ 1) × (store.tail ≡ 34) × (store.journal_length ≡ 0)) }
         ensures file { IsTrue (D.disk first).honest → IfOk result (λ store. IsFilled (D.disk first) (D.disk (first_of store)) new_file) }
         ensures empty { IsTrue (D.disk second).honest → IfOk result (λ store. IsFilled (D.disk second) (D.disk (second_of store)) []) }
@@ -171,9 +168,8 @@ impl<D: Device, A: Allocator> Store<D, A> {
                 phase: Phase::Idle,
                 broken: false,
                 spare_shut: false,
-                lane: Lane::new(),
-                beside: Renewal::Nothing,
-                from: 0,
+                rest: None,
+                room: None,
             }),
             Err(why) => Err(Refused { why, first, second }),
         }

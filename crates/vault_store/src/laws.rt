@@ -2,7 +2,7 @@
 ghost use Rattle.vault_store.specs.Laws.{CrashLeavesWhatIsKept, OneGateIsOpened, NotedIsSpelled, OneReading, EitherWay, OneVault, NothingIsWrong, OneFault};
 ghost use Rattle.vault_store.specs.Companions.{FilesPass};
 ghost use Rattle.vault_store.specs.Rows.{Rows};
-ghost use Rattle.vault_store.specs.TwoVaults.{NothingIsTakenAway, ClosedFilesPass, FramesPass, TornGatesPass, SnapshotsPass};
+ghost use Rattle.vault_store.specs.TwoVaults.{NothingIsTakenAway, ClosedFilesPass, FramesLeaveIt, TornGatesPass, SnapshotsPass};
 
 use vault_device::Device;
 
@@ -37,13 +37,13 @@ pub fn rows_are_given()
 /// and weren't reported as two (`create`, `open`). Each call keeps them so (`note`, `start_snapshot`, `advance`). Whatever a crash
 /// leaves of them passes `vault_pairing::are_of_two_vaults`.
 ///
-/// Call by call: files as a creation leaves them pass, since one is closed. After a commit the newer file leads to a later vault.
+/// Call by call: files as a creation leaves them pass, since one is closed. A commit writes only behind the snapshot of the newer file.
 /// A snapshot's first call may tear the older file's gate, and while its bytes are written that file is closed. Once its gate is
-/// opened, the other file is the older one, and leads to an earlier state of what the new one leads to, since effects take nothing away.
+/// opened, the other file is the older one, and leads to an earlier state of the new snapshot's vault, since effects take nothing away.
 pub fn files_of_one_vault_pass<D: Device>()
     ensures reached { FilesPass D.disk }
     ensures closed { ClosedFilesPass }
-    ensures committed { FramesPass }
+    ensures committed { FramesLeaveIt }
     ensures torn { TornGatesPass }
     ensures renewed { SnapshotsPass D.disk }
     ensures effects { NothingIsTakenAway }

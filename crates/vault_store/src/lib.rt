@@ -3,8 +3,7 @@
 //!
 //! Promises: after each step of a commit or a snapshot, and at each moment inside it, a crash leaves files that stand for the durable
 //! (settled) vault. While a gate is being opened, they stand for that or for the sealed one (`advance`). A snapshot is of the book
-//! with all that was noted (`start_snapshot`), and is written alone, or beside commits, whose frames are then copied behind it (`renew`).
-//! A creation, also one that crashed, leaves the new vault or none (`create`). Two files
+//! with all that was noted (`start_snapshot`). A creation, also one that crashed, leaves the new vault or none (`create`). Two files
 //! stand for at most one vault, and each durable vault has at most one spelling in each version of the files (`laws`). Both versions
 //! are read, and only the second is written. Opening gives that vault, or reports the first thing that is wrong, with its file and
 //! offset. It writes nothing (`open`; for one file alone `read_head` and `read_body`).
@@ -22,8 +21,6 @@
 //! 6. If the active file is honest, it holds on the disk what the phase says: the front up to the tail gate, and the frame under way.
 //! 7. The same for the spare file. While nothing of a snapshot is written, it is durable, and its head gate is closed if that is
 //!    known. Otherwise it holds, behind that gate, what is written of the snapshot under way.
-//! 8. A snapshot beside commits isn't one of the phase. Frames are copied only once all of it is written; those that are not copied begin
-//!    where it says, at most a frame behind the tail gate, and their copies fit behind it. There is a buffer to copy them through.
 //!
 //! Only tested: two real files; commits and a creation with each kind of crash at each device call, and a snapshot with a crash
 //! between its calls; speed and memory of opening.
@@ -31,15 +28,12 @@
 //! and opening.rt.
 #![tactic(auto)]
 
-mod beside;
 mod body;
-mod bygone;
 mod calls;
 mod commit;
 mod creation;
 mod front;
 mod journal;
-mod lane;
 pub mod laws;
 mod opening;
 mod phase;
@@ -49,12 +43,14 @@ mod snapshot;
 mod starting;
 mod store;
 
-pub use body::{Body, BodyError, Contents, ReadError, read_body, read_contents};
+pub use body::{
+    Base, Body, BodyError, Contents, ReadError, read_body, read_contents, read_first_base,
+};
 pub use calls::settle_both;
 pub use creation::CreateError;
 pub use front::{Head, read_head};
 pub use opening::{File, OpenError};
-pub use phase::{Advanced, Phase, Renewal, Renewed};
+pub use phase::{Advanced, Phase};
 pub use refused::Refused;
 pub use starting::Started;
 pub use store::Store;

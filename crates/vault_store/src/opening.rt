@@ -2,7 +2,6 @@
 ghost use Rattle.std.specs.Prelude.{◌≡◌, ◌⊎◌, ◌↔◌, ℕ, List, [], IfOk, IfErr, IsErr, OnOk, IsTrue, true};
 ghost use Rattle.vault_journal.specs.Gate.{IsClosed};
 ghost use Rattle.vault_store.specs.declared.opening.OpenError.TheVariants.{Device as DeviceFailed, NoMemory as Wanted};
-ghost use Rattle.vault_store.specs.declared.phase.Renewal.TheVariants.{Nothing};
 ghost use Rattle.vault_store.specs.Calls.{HasCause, IsQuiet, AreQuiet};
 ghost use Rattle.vault_format.specs.Faults.{IsDamagedHead};
 ghost use Rattle.vault_format.specs.Files.{AreRead};
@@ -17,8 +16,7 @@ ghost use Rattle.vault_store.specs.TwoVaults.{AreOfTwoVaults};
 use crate::body::{Contents, ReadError, read_contents};
 use crate::front::{Head, read_head};
 use crate::journal::read_gate;
-use crate::lane::Lane;
-use crate::{Phase, Refused, Renewal, Store};
+use crate::{Phase, Refused, Store};
 use std::alloc::Allocator;
 use thiserror::Error;
 use vault_checkout::Book;
@@ -241,7 +239,6 @@ impl<D: Device, A: Allocator + Copy> Store<D, A> {
         second: D,
     ) -> Result<(Store<D, A>, Book<A>), Refused<D, OpenError>>
         ensures kept { IfOk result (λ opened. Keeps D.disk opened.0 (at_rest opened.1)) }
-        ensures alone { IfOk result (λ opened. (opened.0.beside ≡ Nothing) × (opened.0.copied ≡ 0)) }
         ensures read { IsTrue (D.disk first).honest → IsTrue (D.disk second).honest
             → IfOk result (λ opened. AreRead (D.disk first).shown (D.disk second).shown (settled_reading opened.0 (at_rest opened.1))) }
         ensures one_vault { (AreOfTwoVaults (D.disk first).shown (D.disk second).shown → ⊥)
@@ -294,9 +291,8 @@ impl<D: Device, A: Allocator + Copy> Store<D, A> {
                     phase: Phase::Idle,
                     broken: false,
                     spare_shut,
-                    lane: Lane::new(),
-                    beside: Renewal::Nothing,
-                    from: 0,
+                    rest: None,
+                    room: None,
                 };
                 Ok((store, book))
             }

@@ -1,4 +1,4 @@
-//! How far a commit or a snapshot has come, and one that is written beside commits.
+//! How far a commit or a snapshot has come.
 
 /// How far a commit or a snapshot has come: which step comes next.
 #[derive(Clone, Copy, Debug, PartialEq, Eq)]
@@ -34,36 +34,6 @@ pub enum Advanced {
     Moved,
     /// The last step: more is durable.
     Settled,
-    /// Nothing, since a device call failed earlier.
-    Broken,
-}
-
-/// How far a snapshot that is written beside commits has come: which step of it comes next.
-#[derive(Clone, Copy, Debug, PartialEq, Eq)]
-pub enum Renewal {
-    /// No snapshot is written beside commits.
-    Nothing,
-    /// One was begun.
-    Start,
-    /// The head gate of the spare file is written closed.
-    Closing,
-    /// The spare's gate is synced, and this many bytes of the snapshot are still to write.
-    Writing(u64),
-    /// The snapshot is written. The frames that the active file got since it was begun are copied behind it.
-    Copying,
-}
-
-/// What a step of a snapshot beside commits did.
-#[derive(Clone, Copy, Debug, PartialEq, Eq)]
-pub enum Renewed {
-    /// Nothing, since no snapshot is written beside commits.
-    Nothing,
-    /// One step.
-    Moved,
-    /// Nothing now: all durable frames are copied, and a commit is under way; or no frame may begin any more.
-    Waiting,
-    /// All frames are copied. From here on the snapshot stands alone, and pumps end it.
-    Ended,
     /// Nothing, since a device call failed earlier.
     Broken,
 }

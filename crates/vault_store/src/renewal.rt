@@ -1,5 +1,6 @@
 //! The steps of a snapshot, one function for each row of the phase table.
 ghost use Rattle.std.specs.Prelude.{◌≡◌, ◌<◌, ◌≤◌, ◌+◌, ◌-◌, ◌^◌, [], ◌∷◌, IsTrue, true, false, length, take, drop};
+ghost use Rattle.std.specs.Option.{option_map_or};
 ghost use Rattle.vault_device.specs.Disk.{IsOneCall, IsWrite};
 ghost use Rattle.vault_store.specs.declared.phase.Phase.TheVariants as phases;
 ghost use Rattle.vault_store.specs.Phases.{piece_size, behind_piece};
@@ -14,7 +15,24 @@ use vault_device::{Device, Fault};
 use vault_journal::{open_gate, settle_body, settle_gate};
 
 // How many bytes of a snapshot one step writes at most.
-pub(crate) const MAX_PIECE: u64 = 65_536;
+const MAX_PIECE: u64 = 65_536;
+
+// The bytes of a buffer; none if there is no buffer.
+fn bytes_of<A: Allocator>(buffer: &Option<Vec<u8, A>>) -> &[u8]
+    ensures { result.now ≡ option_map_or (λ v. v.items) buffer.now [] }
+{
+    match buffer {
+        Some(bytes) => bytes.as_slice(),
+        None => &[],
+    }
+}
+
+// Keeps the memory of a buffer for the next snapshot.
+fn set_aside<A: Allocator>(buffer: &mut Option<Vec<u8, A>>, room: &mut Option<Vec<u8, A>>)
+    ensures { option_map_or (λ v. v.items) buffer.new [] ≡ [] }
+{
+    *room = buffer.take();
+}
 
 // The other file.
 fn other(which: File) -> File
@@ -27,7 +45,7 @@ fn other(which: File) -> File
 }
 
 // How many bytes the next piece has, where `left` bytes are still to write.
-pub(crate) fn piece_size(left: u64) -> u64
+fn piece_size(left: u64) -> u64
     ensures { result ≡ piece_size left }
 {
     if left <= MAX_PIECE { left } else { MAX_PIECE }
@@ -45,7 +63,7 @@ fn behind_piece(left: u64) -> Phase
 }
 
 // Writes 0 into the head gate. One device call.
-pub(crate) fn write_shut<D: Device>(device: &mut D) -> Result<(), Fault>
+fn write_shut<D: Device>(device: &mut D) -> Result<(), Fault>
     ensures one_call { IsOneCall (D.disk device.old) (D.disk device.new) result }
     ensures write { IsTrue (D.disk device.old).honest → IsWrite 0 (0 ∷ []) result (D.disk device.old) (D.disk device.new) }
 {
@@ -53,7 +71,7 @@ pub(crate) fn write_shut<D: Device>(device: &mut D) -> Result<(), Fault>
 }
 
 // Writes the next piece of these bytes behind the head gate; `left` of them are still to write. One device call.
-pub(crate) fn write_next<D: Device>(device: &mut D, bytes: &[u8], left: u64) -> Result<(), Fault>
+fn write_next<D: Device>(device: &mut D, bytes: &[u8], left: u64) -> Result<(), Fault>
     requires within { left ≤ length bytes.now }
     requires short { length bytes.now < 2 ^ 33 }
     requires stands { IsTrue (D.disk device.old).honest → length bytes.now - left < length (D.disk device.old).shown }
@@ -95,7 +113,7 @@ impl<D: Device, A: Allocator> Store<D, A> {
     {
         match settle_gate(&mut self.spare) {
             Ok(()) => {
-                self.phase = Phase::Writing(self.lane.len());
+                self.phase = Phase::Writing(bytes_of(&self.rest).len() as u64);
                 Ok(Advanced::Moved)
             }
             Err(fault) => broken_by(&mut self.broken, fault),
@@ -108,7 +126,7 @@ impl<D: Device, A: Allocator> Store<D, A> {
         requires whole { self.old.broken ≡ false }
         ensures { IsAdvance D.disk self.old self.new result }
     {
-        let written = write_next(&mut self.spare, self.lane.bytes(), left);
+        let written = write_next(&mut self.spare, bytes_of(&self.rest), left);
         self.phase = behind_piece(left);
         match written {
             Ok(()) => Ok(Advanced::Moved),
@@ -158,11 +176,11 @@ impl<D: Device, A: Allocator> Store<D, A> {
                 self.sealed = 0;
                 self.version = FileVersion::Two;
                 self.generation += 1;
-                self.tail = self.lane.len();
-                self.journal_length = self.lane.copied();
+                self.tail = bytes_of(&self.rest).len() as u64;
+                self.journal_length = 0;
                 self.phase = Phase::Idle;
                 self.spare_shut = false;
-                self.lane.clear();
+                set_aside(&mut self.rest, &mut self.room);
                 Ok(Advanced::Settled)
             }
             Err(fault) => broken_by(&mut self.broken, fault),

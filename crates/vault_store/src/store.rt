@@ -7,9 +7,8 @@ ghost use Rattle.vault_store.specs.Companions.{IsOfOneVault};
 ghost use Rattle.vault_store.specs.State.{StoreState, with_effect};
 ghost use Rattle.vault_store.specs.Seen.{first_of, second_of, Keeps, has_room};
 
-use crate::lane::Lane;
 use crate::opening::in_turn;
-use crate::{File, FileVersion, Phase, Renewal};
+use crate::{File, FileVersion, Phase};
 use std::alloc::{Allocator, Global};
 use std::marker::Model;
 use vault_device::Device;
@@ -20,7 +19,7 @@ use vault_model::EffectIn;
 const MAX_NOTED: usize = 261_104;
 
 // No frame may begin at this offset or behind it, so that each write ends below 2^63.
-pub(crate) const LAST_TAIL: u64 = 1 << 62;
+const LAST_TAIL: u64 = 1 << 62;
 
 /// A vault in two files. What was noted is written and made durable step by step.
 #[derive(Drop)]
@@ -49,12 +48,10 @@ pub struct Store<D: Device, A: Allocator = Global> {
     pub(crate) broken: bool,
     /// Whether the spare file's head gate is known to be closed.
     pub(crate) spare_shut: bool,
-    /// What a snapshot writes behind that gate.
-    pub(crate) lane: Lane<A>,
-    /// Which step of a snapshot that is written beside commits comes next.
-    pub(crate) beside: Renewal,
-    /// Where the frames stand in the active file that it copies next.
-    pub(crate) from: u64,
+    /// What a snapshot writes behind that gate; `Some` while one is under way.
+    pub(crate) rest: Option<Vec<u8, A>>,
+    /// The buffer of the last snapshot, kept for the next one. Its bytes mean nothing.
+    pub(crate) room: Option<Vec<u8, A>>,
 }
 
 impl<D: Device, A: Allocator> Model for Store<D, A> {
@@ -76,13 +73,6 @@ impl<D: Device, A: Allocator> Store<D, A> {
         ensures { result ≡ self.now.phase }
     {
         self.phase
-    }
-
-    /// How far a snapshot that is written beside commits has come.
-    pub fn renewal(&self) -> Renewal
-        ensures { result ≡ self.now.beside }
-    {
-        self.beside
     }
 
     /// The version of the active file.
@@ -124,9 +114,8 @@ impl<D: Device, A: Allocator> Store<D, A> {
             phase: _,
             broken: _,
             spare_shut: _,
-            lane: _lane,
-            beside: _,
-            from: _,
+            rest: _rest,
+            room: _room,
         } = self;
         in_turn(which, active, spare)
     }

@@ -1,6 +1,6 @@
 //! What is done to a vault, and what each call is to answer.
 
-use group_commit::{Forgotten, Phase, Pumped, Renewed, Retired, Started};
+use group_commit::{Forgotten, Phase, Pumped, Retired, Started};
 use vault_device::Fault;
 use vault_model::{Outside, Refusal};
 
@@ -54,10 +54,6 @@ pub(crate) enum Call {
     Forget(Hand, Forgotten),
     Pump(Result<Pumped, Fault>),
     Start(Started),
-    /// A snapshot is begun beside commits.
-    Beside(Started),
-    /// Its next step is made.
-    Renew(Result<Renewed, Fault>),
     Retire(Retired),
     /// How many entries the vault has, keeps, made durable and acknowledged.
     Numbers([u64; 4]),

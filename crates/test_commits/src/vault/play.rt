@@ -204,9 +204,8 @@ fn is_forgotten<D: Device, A: Allocator + Copy>(
     }
 }
 
-// Whether a snapshot was begun, or refused memory.
-fn begun(started: Result<Started, NoMemory>, answer: Started) -> Outcome {
-    match started {
+fn start<D: Device, A: Allocator + Copy>(vault: &mut Vault<D, A>, answer: Started) -> Outcome {
+    match vault.start_snapshot() {
         Ok(started) => Outcome::done(started == answer),
         Err(NoMemory) => Outcome::Refused,
     }
@@ -232,9 +231,7 @@ pub(crate) fn call<D: Device, A: Allocator + Copy>(
             return stage(vault, hands, alloc, (hand, session, said), command);
         }
         Call::Redeem(hand, fate) => return redeem(vault, hands, hand, fate),
-        Call::Start(answer) => return begun(vault.start_snapshot(), answer),
-        Call::Beside(answer) => return begun(vault.start_beside(), answer),
-        Call::Renew(answer) => vault.renew() == answer,
+        Call::Start(answer) => return start(vault, answer),
         Call::Give(session, said) => is_given(vault, alloc, (session, said), None),
         Call::Refuse(said, reason) => is_given(vault, alloc, (1, said), Some(reason)),
         Call::Forget(hand, answer) => is_forgotten(vault, hands, hand, answer),

@@ -1,7 +1,7 @@
 //! Worked conversations with a vault, and what its files then come to.
 
 use crate::vault::call::Call::{
-    Beside, Broken, Forget, Give, Numbers, Pump, Redeem, Refuse, Renew, Retire, Stage, Start, Wants,
+    Broken, Forget, Give, Numbers, Pump, Redeem, Refuse, Retire, Stage, Start, Wants,
 };
 use crate::vault::call::Fate;
 use crate::vault::call::Fate::{Listed, NotYet, Place, Session, Stranger, Unknown};
@@ -10,12 +10,12 @@ use crate::vault::call::Said::{CheckOut, Hello, List, Make, Question, Save};
 use crate::vault::play::Script;
 use group_commit::Pumped::{Idle, Moved, Settled};
 use group_commit::Retired::{Nothing, One};
-use group_commit::{Forgotten, Pumped, Renewed, Started};
+use group_commit::{Forgotten, Pumped, Started};
 use vault_device::Fault;
 use vault_model::Outside;
 use vault_model::Refusal::{Exists, NoSession};
 
-pub(crate) static SCRIPTS: [Script; 11] = [
+pub(crate) static SCRIPTS: [Script; 9] = [
     Script {
         name: "settled without a commit",
         failing: 0,
@@ -164,87 +164,6 @@ pub(crate) static SCRIPTS: [Script; 11] = [
             (1, Stage(Left, 1, List)),
             (1, Pump(Ok(Settled))),
             (1, Redeem(Left, Listed(b"e"))),
-        ],
-    },
-    // A snapshot beside commits has what is in frames as it is begun, also in one under way, and the frame of the second place is copied.
-    Script {
-        name: "a snapshot beside commits",
-        failing: 0,
-        calls: &[
-            (1, Stage(Left, 0, Hello(b"anna"))),
-            (1, Pump(Ok(Settled))),
-            (1, Redeem(Left, Session(1))),
-            (1, Stage(Left, 1, Make(b"/e"))),
-            (1, Beside(Started::NotNow)),
-            (1, Pump(Ok(Moved))),
-            (1, Beside(Started::Yes)),
-            (1, Beside(Started::NotNow)),
-            (1, Start(Started::NotNow)),
-            (1, Wants(false)),
-            (3, Renew(Ok(Renewed::Moved))),
-            (1, Renew(Ok(Renewed::Waiting))),
-            (2, Pump(Ok(Moved))),
-            (1, Pump(Ok(Settled))),
-            (1, Redeem(Left, Place(1))),
-            (1, Stage(Right, 1, Make(b"/f"))),
-            (3, Pump(Ok(Moved))),
-            (1, Pump(Ok(Settled))),
-            (1, Redeem(Right, Place(2))),
-            (1, Renew(Ok(Renewed::Moved))),
-            (1, Renew(Ok(Renewed::Ended))),
-            (1, Renew(Ok(Renewed::Nothing))),
-            (2, Pump(Ok(Moved))),
-            (1, Pump(Ok(Settled))),
-            (1, Numbers([3, 3, 3, 3])),
-        ],
-        devices: (8 + 4 + 4 + 1, 2 + 4 + 3),
-        len: 35 + 12 + 12,
-        next: &[
-            (1, Stage(Left, 0, Hello(b"anna"))),
-            (1, Pump(Ok(Settled))),
-            (1, Redeem(Left, Session(1))),
-            (1, Stage(Left, 1, Make(b"/f"))),
-            (1, Pump(Ok(Settled))),
-            (1, Redeem(Left, Fate::Refused(Exists))),
-        ],
-    },
-    Script {
-        name: "a copy that fails",
-        failing: 8 + 4 + 4 + 1,
-        calls: &[
-            (1, Stage(Left, 0, Hello(b"anna"))),
-            (1, Pump(Ok(Settled))),
-            (1, Redeem(Left, Session(1))),
-            (1, Stage(Left, 1, Make(b"/e"))),
-            (1, Beside(Started::NotNow)),
-            (1, Pump(Ok(Moved))),
-            (1, Beside(Started::Yes)),
-            (1, Beside(Started::NotNow)),
-            (1, Start(Started::NotNow)),
-            (1, Wants(false)),
-            (3, Renew(Ok(Renewed::Moved))),
-            (1, Renew(Ok(Renewed::Waiting))),
-            (2, Pump(Ok(Moved))),
-            (1, Pump(Ok(Settled))),
-            (1, Redeem(Left, Place(1))),
-            (1, Stage(Right, 1, Make(b"/f"))),
-            (3, Pump(Ok(Moved))),
-            (1, Pump(Ok(Settled))),
-            (1, Redeem(Right, Place(2))),
-            (1, Renew(Err(Fault))),
-            (1, Renew(Ok(Renewed::Broken))),
-            (1, Pump(Ok(Pumped::Broken))),
-            (1, Broken(true)),
-        ],
-        devices: (8 + 4 + 4 + 1, 2 + 3),
-        len: 35 + 12 + 12,
-        next: &[
-            (1, Stage(Left, 0, Hello(b"anna"))),
-            (1, Pump(Ok(Settled))),
-            (1, Redeem(Left, Session(1))),
-            (1, Stage(Left, 1, Make(b"/f"))),
-            (1, Pump(Ok(Settled))),
-            (1, Redeem(Left, Fate::Refused(Exists))),
         ],
     },
     // Frames of 38 bytes of records, of 253 records of 1,035 bytes four times, and of one such record twice: 1,047,483 bytes, then

@@ -5,7 +5,7 @@ use crate::vault::call::Row;
 use crate::vault::call::Said::Line;
 use crate::vault::play::{Hands, answered, command, end, is_same, new_vault, numbers_of};
 use group_commit::Pumped::{Moved, Settled};
-use group_commit::{OpenError, Phase, Redeemed, Refused, Renewal, Started, Ticket, Vault};
+use group_commit::{OpenError, Phase, Redeemed, Refused, Started, Ticket, Vault};
 use std::alloc::{Allocator, Global};
 use std::process::Abort;
 use test_memory::{Outcome, Refusing, requests};
@@ -20,7 +20,6 @@ type Asking<'a> = Vault<MemDevice, &'a Refusing<Global>>;
 enum Call {
     Open,
     Start,
-    Beside,
     /// A session's line is staged, and this answers it.
     Stage(u32, &'static str, &'static str),
 }
@@ -267,28 +266,6 @@ fn starts(
     tried.and(ends_as(next, (memory, aside), wanted) && is_settled)
 }
 
-// Begins a snapshot beside a commit with the request of this number refused. If it was, there is none; the commit goes on.
-fn starts_beside(
-    rt: &impl Abort,
-    memory: &Refusing<Global>,
-    aside: Global,
-    wanted: &[u8],
-    number: u64,
-) -> Outcome {
-    let mut vault = making(rt, memory, aside);
-    let is_moved = vault.pump() == Ok(Moved);
-    memory.refuse(number);
-    let started = vault.start_beside();
-    let has_refused = memory.has_refused();
-    let tried = match started {
-        Ok(started) => Outcome::done(!has_refused && started == Started::Yes),
-        Err(NoMemory) => Outcome::refused(has_refused && vault.renewal() == Renewal::Nothing),
-    };
-    let is_settled = settles(&mut vault);
-    let next = opened(rt, memory, left(vault));
-    tried.and(ends_as(next, (memory, aside), wanted) && is_moved && is_settled)
-}
-
 // Stages a line with the request of this number refused. If it was, the command comes back, nothing is kept of it, and it is staged then.
 fn staged_without<'a>(
     rt: &impl Abort,
@@ -349,7 +326,7 @@ fn behind<'a>(
 ) -> Asking<'a> {
     match call {
         Call::Open => opened(rt, memory, left(begun(rt, memory, aside))),
-        Call::Start | Call::Beside => {
+        Call::Start => {
             let mut vault = making(rt, memory, aside);
             let is_settled = settles(&mut vault);
             assert!(rt; is_settled);
@@ -375,7 +352,6 @@ fn tries(
     match call {
         Call::Open => opens(rt, memory, aside, wanted, number),
         Call::Start => starts(rt, memory, aside, wanted, number),
-        Call::Beside => starts_beside(rt, memory, aside, wanted, number),
         Call::Stage(session, line, text) => {
             says(rt, memory, aside, (*session, line, text), wanted, number)
         }
@@ -402,10 +378,9 @@ fn each_request_of_a_command_is_refused(rt: HostRuntime) {
 }
 
 // The calls, and how many requests each makes.
-static CALLS: [(&str, Call, u64); 26] = [
+static CALLS: [(&str, Call, u64); 25] = [
     ("Vault::open", Call::Open, 39),
     ("Vault::start_snapshot, and a commit", Call::Start, 1),
-    ("Vault::start_beside, in a commit", Call::Beside, 2),
     (
         "Vault::stage, Join",
         Call::Stage(0, "hello eve", "OK session 5"),

@@ -7,7 +7,7 @@ use Rattle.vault_protocol.proofs.reopening.reopened.Goals as goal
 
 pub returns-in-Ok : goal.returns-in-Ok
 returns-in-Ok g c =
-    let d = reopens c.args.vault c.args.pick _ _ c.in-Ok.vault.view.base c.in-Ok.vault.store.version c.in-Ok.vault.store.generation c.in-Ok.vault.store.tail _ c.a_vault_keeps_its_history.ensures.store c.requires.bare
+    let d = reopens c.args.vault c.args.pick _ _ c.in-Ok.vault.view.base c.in-Ok.vault.store.version c.in-Ok.vault.store.generation c.in-Ok.vault.store.tail _ c.a_vault_keeps_its_history.ensures.store
     (record { left = c.images_stand_for_the_history.ensures.left; stands = c.images_stand_for_the_history.ensures.stands; gate = c.images_stand_for_the_history.ensures.gate })
     c.files_stand_for_one_vault.ensures.reading
     (sym c.is_broken.ensures ∙ c.if-is_broken.false)
@@ -16,4 +16,4 @@ returns-in-Ok g c =
     (subst (λ (d : MemDisk). (disk_of d).IsImage (disk_of c.crash.new.self).shown) c.into_devices-first.ensures.first c.crash.ensures.image)
     (subst (λ (d : MemDisk). (disk_of d).IsImage (disk_of c.crash-2.new.self).shown) c.into_devices-first.ensures.second c.crash-2.ensures.image)
     (c.in-Ok.ensures.read refl refl) in
-    record { view = c.in-Ok.ensures.begins ∙ ap opened_view d.base_is; life = search rules; buffer = c.in-Ok.ensures.buffer; bare = c.in-Ok.ensures.bare; generation = d.generation_is; tail = d.tail_is; cause = tt }
+    record { view = c.in-Ok.ensures.begins ∙ ap opened_view d.base_is; life = search rules; buffer = c.in-Ok.ensures.buffer; generation = d.generation_is; tail = d.tail_is; cause = tt }

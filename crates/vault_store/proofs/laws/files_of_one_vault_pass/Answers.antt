@@ -1,6 +1,6 @@
 use Rattle.vault_store.proofs.Companions.{files_pass}
 use Rattle.vault_store.proofs.Growing.{grown}
-use Rattle.vault_store.proofs.Passes.{closed_pass, frames_pass, torn_pass, snapshots_pass}
+use Rattle.vault_store.proofs.Passes.{closed_pass, frames_leave, torn_pass, snapshots_pass}
 use Rattle.vault_store.proofs.laws.files_of_one_vault_pass.Goals as goal
 
 pub returns-clause-reached : goal.returns-clause-reached
@@ -10,7 +10,7 @@ pub returns-clause-closed : goal.returns-clause-closed
 returns-clause-closed g c = closed_pass
 
 pub returns-clause-committed : goal.returns-clause-committed
-returns-clause-committed g c = frames_pass
+returns-clause-committed g c = frames_leave
 
 pub returns-clause-torn : goal.returns-clause-torn
 returns-clause-torn g c = torn_pass

@@ -1,5 +1,4 @@
-use Rattle.vault_store.specs.declared.phase.Renewal.TheVariants.{Nothing}
-use Rattle.std.proofs.Common.{◌≡◌, inr, sym, ap, ◌∙◌, subst}
+use Rattle.std.proofs.Common.{inr, sym, ap, ◌∙◌, subst}
 use Rattle.vault_store.specs.Calls.{AreQuiet}
 use Rattle.vault_store.specs.Companions.{IsOfOneVault}
 use Rattle.vault_format.specs.Files.{AreRead}
@@ -24,10 +23,6 @@ returns-clause-life g c = begun c.open.result c.args.life c.begin.result c.begin
 pub returns-clause-buffer : goal.returns-clause-buffer
 returns-clause-buffer g c =
     begun c.open.result c.args.life c.begin.result c.begin.ensures (λ store book. Keeps g.D.Device.disk store (at_rest book)) _ c.open.ensures.kept (λ store book new kept is. ap (λ (s : StoreSeen g.row.D.Denot). s.buffer) is.store_is ∙ kept.buffer.whole)
-
-pub returns-clause-bare : goal.returns-clause-bare
-returns-clause-bare g c =
-    begun c.open.result c.args.life c.begin.result c.begin.ensures (λ store book. (store.beside ≡ Nothing) × (store.copied ≡ 0)) _ c.open.ensures.alone (λ store book new alone is. ap (λ (s : StoreSeen g.row.D.Denot). s.copied) is.store_is ∙ alone.1)
 
 pub returns-clause-read : goal.returns-clause-read
 returns-clause-read g c = λ one two.

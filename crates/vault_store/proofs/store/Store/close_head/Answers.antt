@@ -4,7 +4,7 @@ use Rattle.vault_store.specs.declared.phase.Advanced.TheVariants as answers
 use Rattle.vault_store.specs.Seen.{StoreSeen}
 use Rattle.vault_store.specs.View.{seen_of}
 use Rattle.vault_store.specs.Step.{IsAdvance}
-use Rattle.vault_store.proofs.RenewalRows.{head_shut, head_closed, head_failed}
+use Rattle.vault_store.proofs.Renewed.{head_shut, head_closed, head_failed}
 use Rattle.vault_store.proofs.Failed.{failed_by}
 use Rattle.vault_store.proofs.store.Store.close_head.Goals as goal
 

@@ -2,11 +2,8 @@ use Rattle.std.proofs.Common.{List, [], ℕ, sym, subst, false}
 use Rattle.vault_state.specs.Vault.{new_vault}
 use Rattle.vault_store.specs.declared.opening.File.TheVariants.{First}
 use Rattle.vault_store.specs.declared.phase.Phase.TheVariants.{Idle}
-use Rattle.vault_store.specs.declared.phase.Renewal.TheVariants.{Nothing}
 use Rattle.vault_store.specs.State.{at_rest}
 use Rattle.vault_store.specs.Seen.{Keeps}
-use Rattle.vault_store.specs.LaneSeen.{LaneSeen}
-use Rattle.vault_store.specs.Companions.{IsOfOneVault}
 use Rattle.vault_store.specs.Sound.{IsSoundStore}
 use Rattle.vault_store.proofs.New.{new_sound, new_kept, new_one}
 use Rattle.vault_store.proofs.Creating.{stops_in_creation, passes_in_creation}
@@ -15,15 +12,13 @@ use Rattle.vault_format.specs.Snapshot.{current_version}
 
 pub invariant_of-result : goal.invariant_of-result
 invariant_of-result g c =
-    subst (λ (bytes : List ℕ). IsSoundStore g.D.Device.disk (record { active = c.make.new.first; spare = c.make.new.second; which = First; buffer = bytes; sealed = 0; version = current_version; generation = 1; tail = 34; journal_length = 0; phase = Idle; broken = false; shut = false; rest = c.new.result.bytes; beside = Nothing; from = 0; copied = c.new.result.copied; lane = c.new.result.room })) (sym c.in-Ok.ensures.frame)
-    (subst (λ (l : LaneSeen). IsSoundStore g.D.Device.disk (record { active = c.make.new.first; spare = c.make.new.second; which = First; buffer = []; sealed = 0; version = current_version; generation = 1; tail = 34; journal_length = 0; phase = Idle; broken = false; shut = false; rest = l.bytes; beside = Nothing; from = 0; copied = l.copied; lane = l.room })) (sym c.new.ensures)
-    (new_sound g.D.Device.disk c.args.first c.args.second c.make.new.first c.make.new.second c.make.ensures.first.same_honesty c.in-Ok.ensures.file c.make.ensures.second.same_honesty c.in-Ok.ensures.empty))
+    subst (λ (bytes : List ℕ). IsSoundStore g.D.Device.disk (record { active = c.make.new.first; spare = c.make.new.second; which = First; buffer = bytes; sealed = 0; version = current_version; generation = 1; tail = 34; journal_length = 0; phase = Idle; broken = false; shut = false; rest = [] })) (sym c.in-Ok.ensures.frame)
+    (new_sound g.D.Device.disk c.args.first c.args.second c.make.new.first c.make.new.second c.make.ensures.first.same_honesty c.in-Ok.ensures.file c.make.ensures.second.same_honesty c.in-Ok.ensures.empty)
 
 pub returns-in-Ok-clause-kept : goal.returns-in-Ok-clause-kept
 returns-in-Ok-clause-kept g c =
-    subst (λ (bytes : List ℕ). Keeps g.D.Device.disk (record { active = c.make.new.first; spare = c.make.new.second; which = First; buffer = bytes; sealed = 0; version = current_version; generation = 1; tail = 34; journal_length = 0; phase = Idle; broken = false; shut = false; rest = c.new.result.bytes; beside = Nothing; from = 0; copied = c.new.result.copied; lane = c.new.result.room }) (at_rest new_vault)) (sym c.in-Ok.ensures.frame)
-    (subst (λ (l : LaneSeen). Keeps g.D.Device.disk (record { active = c.make.new.first; spare = c.make.new.second; which = First; buffer = []; sealed = 0; version = current_version; generation = 1; tail = 34; journal_length = 0; phase = Idle; broken = false; shut = false; rest = l.bytes; beside = Nothing; from = 0; copied = l.copied; lane = l.room }) (at_rest new_vault)) (sym c.new.ensures)
-    (new_kept g.D.Device.disk c.args.first c.args.second c.make.new.first c.make.new.second c.make.ensures.first.same_honesty c.in-Ok.ensures.file c.make.ensures.second.same_honesty c.in-Ok.ensures.empty))
+    subst (λ (bytes : List ℕ). Keeps g.D.Device.disk (record { active = c.make.new.first; spare = c.make.new.second; which = First; buffer = bytes; sealed = 0; version = current_version; generation = 1; tail = 34; journal_length = 0; phase = Idle; broken = false; shut = false; rest = [] }) (at_rest new_vault)) (sym c.in-Ok.ensures.frame)
+    (new_kept g.D.Device.disk c.args.first c.args.second c.make.new.first c.make.new.second c.make.ensures.first.same_honesty c.in-Ok.ensures.file c.make.ensures.second.same_honesty c.in-Ok.ensures.empty)
 
 pub returns-in-Ok-clause-stops : goal.returns-in-Ok-clause-stops
 returns-in-Ok-clause-stops g c =
@@ -35,9 +30,7 @@ returns-in-Err-clause-refused_stops g c =
 
 pub returns-in-Ok-clause-one_vault : goal.returns-in-Ok-clause-one_vault
 returns-in-Ok-clause-one_vault g c =
-    subst (λ (bytes : List ℕ). IsOfOneVault g.D.Device.disk (record { active = c.make.new.first; spare = c.make.new.second; which = First; buffer = bytes; sealed = 0; version = current_version; generation = 1; tail = 34; journal_length = 0; phase = Idle; broken = false; shut = false; rest = c.new.result.bytes; beside = Nothing; from = 0; copied = c.new.result.copied; lane = c.new.result.room })) (sym c.in-Ok.ensures.frame)
-    (subst (λ (l : LaneSeen). IsOfOneVault g.D.Device.disk (record { active = c.make.new.first; spare = c.make.new.second; which = First; buffer = []; sealed = 0; version = current_version; generation = 1; tail = 34; journal_length = 0; phase = Idle; broken = false; shut = false; rest = l.bytes; beside = Nothing; from = 0; copied = l.copied; lane = l.room })) (sym c.new.ensures)
-    (new_one g.D.Device.disk c.args.first c.args.second c.make.new.first c.make.new.second c.make.ensures.first.same_honesty c.in-Ok.ensures.file c.make.ensures.second.same_honesty c.in-Ok.ensures.empty))
+    new_one g.D.Device.disk c.args.first c.args.second c.make.new.first c.make.new.second c.make.ensures.first.same_honesty c.in-Ok.ensures.file c.make.ensures.second.same_honesty c.in-Ok.ensures.empty
 
 pub returns-in-Ok-clause-passes : goal.returns-in-Ok-clause-passes
 returns-in-Ok-clause-passes g c = passes_in_creation (g.D.Device.disk c.args.first) (g.D.Device.disk c.args.second) (g.D.Device.disk c.make.new.first) (g.D.Device.disk c.make.new.second) c.make.ensures.left

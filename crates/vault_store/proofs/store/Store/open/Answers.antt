@@ -1,10 +1,7 @@
 use Rattle.std.proofs.Common.{List, [], ℕ, IsTrue, sym, subst, false}
 use Rattle.vault_store.specs.declared.phase.Phase.TheVariants.{Idle}
-use Rattle.vault_store.specs.declared.phase.Renewal.TheVariants.{Nothing}
 use Rattle.vault_store.specs.State.{at_rest}
 use Rattle.vault_store.specs.Seen.{Keeps}
-use Rattle.vault_store.specs.LaneSeen.{LaneSeen}
-use Rattle.vault_store.specs.Companions.{IsOfOneVault}
 use Rattle.vault_store.specs.Sound.{IsSoundStore}
 use Rattle.vault_store.specs.Opening.{IsHandedOn}
 use Rattle.vault_store.proofs.Looked.{left_by, in_turn, turned_settled, turned_cause, turned_quiet}
@@ -13,17 +10,15 @@ use Rattle.vault_store.proofs.store.Store.open.Goals as goal
 
 pub returns-in-Ok-read_active-clause-kept : goal.returns-in-Ok-read_active-clause-kept
 returns-in-Ok-read_active-clause-kept g c =
-    subst (λ (bytes : List ℕ). Keeps g.D.Device.disk (record { active = c.read_active.new.active; spare = c.in_turn-active.result.1; which = c.in-Ok.active.which; buffer = bytes; sealed = 0; version = c.in-Ok-read_active.contents.version; generation = c.in-Ok.active.generation; tail = c.in-Ok-read_active.contents.tail; journal_length = c.in-Ok-read_active.contents.journal_length; phase = Idle; broken = false; shut = c.in-Ok.active.spare_shut; rest = c.new.result.bytes; beside = Nothing; from = 0; copied = c.new.result.copied; lane = c.new.result.room }) (at_rest c.in-Ok-read_active.contents.book)) (sym c.in-Ok-read_active.ensures.frame)
-    (subst (λ (l : LaneSeen). Keeps g.D.Device.disk (record { active = c.read_active.new.active; spare = c.in_turn-active.result.1; which = c.in-Ok.active.which; buffer = []; sealed = 0; version = c.in-Ok-read_active.contents.version; generation = c.in-Ok.active.generation; tail = c.in-Ok-read_active.contents.tail; journal_length = c.in-Ok-read_active.contents.journal_length; phase = Idle; broken = false; shut = c.in-Ok.active.spare_shut; rest = l.bytes; beside = Nothing; from = 0; copied = l.copied; lane = l.room }) (at_rest c.in-Ok-read_active.contents.book)) (sym c.new.ensures)
+    subst (λ (bytes : List ℕ). Keeps g.D.Device.disk (record { active = c.read_active.new.active; spare = c.in_turn-active.result.1; which = c.in-Ok.active.which; buffer = bytes; sealed = 0; version = c.in-Ok-read_active.contents.version; generation = c.in-Ok.active.generation; tail = c.in-Ok-read_active.contents.tail; journal_length = c.in-Ok-read_active.contents.journal_length; phase = Idle; broken = false; shut = c.in-Ok.active.spare_shut; rest = [] }) (at_rest c.in-Ok-read_active.contents.book)) (sym c.in-Ok-read_active.ensures.frame)
     (opened_kept g.D.Device.disk c.in-Ok.active.which c.args.first c.args.second c.find_active.new.first c.find_active.new.second c.in_turn-active.result.0 c.in_turn-active.result.1 c.read_active.new.active c.in-Ok.active.generation c.in-Ok.ensures.first c.in-Ok.ensures.second (g.met.D.Device.lawful c.in_turn-active.result.0)
-    c.in_turn-active.ensures.0 c.in_turn-active.ensures.1 c.read_active.ensures.reads c.in-Ok.ensures.found c.in-Ok-read_active.contents.version c.in-Ok-read_active.contents.book c.in-Ok-read_active.contents.frames c.in-Ok-read_active.contents.tail c.in-Ok-read_active.contents.journal_length c.in-Ok-read_active.ensures.contents c.in-Ok.active.spare_shut c.in-Ok.ensures.settled_first c.in-Ok.ensures.settled_second c.in-Ok.ensures.shut))
+    c.in_turn-active.ensures.0 c.in_turn-active.ensures.1 c.read_active.ensures.reads c.in-Ok.ensures.found c.in-Ok-read_active.contents.version c.in-Ok-read_active.contents.book c.in-Ok-read_active.contents.frames c.in-Ok-read_active.contents.tail c.in-Ok-read_active.contents.journal_length c.in-Ok-read_active.ensures.contents c.in-Ok.active.spare_shut c.in-Ok.ensures.settled_first c.in-Ok.ensures.settled_second c.in-Ok.ensures.shut)
 
 pub invariant_of-store : goal.invariant_of-store
 invariant_of-store g c =
-    subst (λ (bytes : List ℕ). IsSoundStore g.D.Device.disk (record { active = c.read_active.new.active; spare = c.in_turn-active.result.1; which = c.in-Ok.active.which; buffer = bytes; sealed = 0; version = c.in-Ok-read_active.contents.version; generation = c.in-Ok.active.generation; tail = c.in-Ok-read_active.contents.tail; journal_length = c.in-Ok-read_active.contents.journal_length; phase = Idle; broken = false; shut = c.in-Ok.active.spare_shut; rest = c.new.result.bytes; beside = Nothing; from = 0; copied = c.new.result.copied; lane = c.new.result.room })) (sym c.in-Ok-read_active.ensures.frame)
-    (subst (λ (l : LaneSeen). IsSoundStore g.D.Device.disk (record { active = c.read_active.new.active; spare = c.in_turn-active.result.1; which = c.in-Ok.active.which; buffer = []; sealed = 0; version = c.in-Ok-read_active.contents.version; generation = c.in-Ok.active.generation; tail = c.in-Ok-read_active.contents.tail; journal_length = c.in-Ok-read_active.contents.journal_length; phase = Idle; broken = false; shut = c.in-Ok.active.spare_shut; rest = l.bytes; beside = Nothing; from = 0; copied = l.copied; lane = l.room })) (sym c.new.ensures)
+    subst (λ (bytes : List ℕ). IsSoundStore g.D.Device.disk (record { active = c.read_active.new.active; spare = c.in_turn-active.result.1; which = c.in-Ok.active.which; buffer = bytes; sealed = 0; version = c.in-Ok-read_active.contents.version; generation = c.in-Ok.active.generation; tail = c.in-Ok-read_active.contents.tail; journal_length = c.in-Ok-read_active.contents.journal_length; phase = Idle; broken = false; shut = c.in-Ok.active.spare_shut; rest = [] })) (sym c.in-Ok-read_active.ensures.frame)
     (opened_sound g.D.Device.disk c.in-Ok.active.which c.args.first c.args.second c.find_active.new.first c.find_active.new.second c.in_turn-active.result.0 c.in_turn-active.result.1 c.read_active.new.active c.in-Ok.active.generation c.in-Ok.ensures.first c.in-Ok.ensures.second (g.met.D.Device.lawful c.in_turn-active.result.0)
-    c.in_turn-active.ensures.0 c.in_turn-active.ensures.1 c.read_active.ensures.reads c.in-Ok.ensures.found c.in-Ok-read_active.contents.version c.in-Ok-read_active.contents.book c.in-Ok-read_active.contents.frames c.in-Ok-read_active.contents.tail c.in-Ok-read_active.contents.journal_length c.in-Ok-read_active.ensures.contents c.in-Ok.active.spare_shut c.in-Ok.ensures.settled_first c.in-Ok.ensures.settled_second c.in-Ok.ensures.shut))
+    c.in_turn-active.ensures.0 c.in_turn-active.ensures.1 c.read_active.ensures.reads c.in-Ok.ensures.found c.in-Ok-read_active.contents.version c.in-Ok-read_active.contents.book c.in-Ok-read_active.contents.frames c.in-Ok-read_active.contents.tail c.in-Ok-read_active.contents.journal_length c.in-Ok-read_active.ensures.contents c.in-Ok.active.spare_shut c.in-Ok.ensures.settled_first c.in-Ok.ensures.settled_second c.in-Ok.ensures.shut)
 
 pub returns-in-Ok-read_active-clause-read : goal.returns-in-Ok-read_active-clause-read
 returns-in-Ok-read_active-clause-read g c =
@@ -77,8 +72,6 @@ returns-in-Err-read_active-clause-handed_back g c =
     c.in_turn-active.ensures.0 c.in_turn-active.ensures.1 c.read_active.ensures.reads c.in-Ok.ensures.found)
 
 pub returns-in-Ok-read_active-clause-one_vault : goal.returns-in-Ok-read_active-clause-one_vault
-returns-in-Ok-read_active-clause-one_vault g c = λ pass.
-    subst (λ (bytes : List ℕ). IsOfOneVault g.D.Device.disk (record { active = c.read_active.new.active; spare = c.in_turn-active.result.1; which = c.in-Ok.active.which; buffer = bytes; sealed = 0; version = c.in-Ok-read_active.contents.version; generation = c.in-Ok.active.generation; tail = c.in-Ok-read_active.contents.tail; journal_length = c.in-Ok-read_active.contents.journal_length; phase = Idle; broken = false; shut = c.in-Ok.active.spare_shut; rest = c.new.result.bytes; beside = Nothing; from = 0; copied = c.new.result.copied; lane = c.new.result.room })) (sym c.in-Ok-read_active.ensures.frame)
-    (subst (λ (l : LaneSeen). IsOfOneVault g.D.Device.disk (record { active = c.read_active.new.active; spare = c.in_turn-active.result.1; which = c.in-Ok.active.which; buffer = []; sealed = 0; version = c.in-Ok-read_active.contents.version; generation = c.in-Ok.active.generation; tail = c.in-Ok-read_active.contents.tail; journal_length = c.in-Ok-read_active.contents.journal_length; phase = Idle; broken = false; shut = c.in-Ok.active.spare_shut; rest = l.bytes; beside = Nothing; from = 0; copied = l.copied; lane = l.room })) (sym c.new.ensures)
-    (opened_one g.D.Device.disk c.in-Ok.active.which c.args.first c.args.second c.find_active.new.first c.find_active.new.second c.in_turn-active.result.0 c.in_turn-active.result.1 c.read_active.new.active c.in-Ok.active.generation c.in-Ok.ensures.first c.in-Ok.ensures.second (g.met.D.Device.lawful c.in_turn-active.result.0)
-    c.in_turn-active.ensures.0 c.in_turn-active.ensures.1 c.read_active.ensures.reads c.in-Ok.ensures.found c.in-Ok-read_active.contents.version c.in-Ok-read_active.contents.book c.in-Ok-read_active.contents.frames c.in-Ok-read_active.contents.tail c.in-Ok-read_active.contents.journal_length c.in-Ok-read_active.ensures.contents c.in-Ok.active.spare_shut c.in-Ok.ensures.settled_first c.in-Ok.ensures.settled_second c.in-Ok.ensures.shut pass))
+returns-in-Ok-read_active-clause-one_vault g c =
+    opened_one g.D.Device.disk c.in-Ok.active.which c.args.first c.args.second c.find_active.new.first c.find_active.new.second c.in_turn-active.result.0 c.in_turn-active.result.1 c.read_active.new.active c.in-Ok.active.generation c.in-Ok.ensures.first c.in-Ok.ensures.second (g.met.D.Device.lawful c.in_turn-active.result.0)
+    c.in_turn-active.ensures.0 c.in_turn-active.ensures.1 c.read_active.ensures.reads c.in-Ok.ensures.found c.in-Ok-read_active.contents.version c.in-Ok-read_active.contents.book c.in-Ok-read_active.contents.frames c.in-Ok-read_active.contents.tail c.in-Ok-read_active.contents.journal_length c.in-Ok-read_active.ensures.contents c.in-Ok.active.spare_shut c.in-Ok.ensures.settled_first c.in-Ok.ensures.settled_second c.in-Ok.ensures.shut

@@ -13,13 +13,13 @@ use Rattle.vault_store.proofs.store.Store.open_gate.Goals as goal
 
 pub invariant_of-self : goal.invariant_of-self
 invariant_of-self g c =
-    phase_sound g.D.Device.disk (seen_of c.self.inside) c.open_gate-opened.new.device c.open_gate-opened.ensures.one_call.same_honesty c.self.invariant (ap (λ (o : StoreSeen g.row.D.Denot). o.broken) c.self.view_is ∙ c.requires.whole) phases.Bodied phases.Opening c.self.inside.broken (ap (λ (o : StoreSeen g.row.D.Denot). o.phase) c.self.view_is ∙ c.requires.phase) refl refl refl refl
+    phase_sound g.D.Device.disk (seen_of c.self.inside) c.open_gate-opened.new.device c.open_gate-opened.ensures.one_call.same_honesty c.self.invariant (ap (λ (o : StoreSeen g.row.D.Denot). o.broken) c.self.view_is ∙ c.requires.whole) phases.Bodied phases.Opening c.self.inside.broken (ap (λ (o : StoreSeen g.row.D.Denot). o.phase) c.self.view_is ∙ c.requires.phase) refl refl refl refl tt
     (λ honest. subst (λ (b : Bool). IsMove (g.D.Device.disk c.self.inside.active) (g.D.Device.disk c.open_gate-opened.new.device) c.self.inside.tail c.self.inside.sealed phases.Bodied phases.Opening b) (sym (ap (λ (o : StoreSeen g.row.D.Denot). o.broken) c.self.view_is ∙ c.requires.whole)) (opens_gate g.D.Device.disk (seen_of c.self.inside) c.open_gate-opened.new.device (ap (λ (o : StoreSeen g.row.D.Denot). o.broken) c.self.view_is ∙ c.requires.whole) (g.met.D.Device.lawful c.self.inside.active) (g.met.D.Device.lawful c.self.inside.spare) (c.in-Ok.ensures.write honest) (c.in-Ok.ensures.opened honest) (c.in-Ok.ensures.images honest) (c.in-Ok.ensures.read honest)))
 
 pub invariant_of-self-in-Err : goal.invariant_of-self-in-Err
 invariant_of-self-in-Err g c =
     subst (λ (b : Bool). IsSoundStore g.D.Device.disk (record (seen_of c.self.inside) { active = c.open_gate-opened.new.device; phase = phases.Opening; broken = b })) (sym c.broken_by.ensures.broken)
-    (phase_sound g.D.Device.disk (seen_of c.self.inside) c.open_gate-opened.new.device c.open_gate-opened.ensures.one_call.same_honesty c.self.invariant (ap (λ (o : StoreSeen g.row.D.Denot). o.broken) c.self.view_is ∙ c.requires.whole) phases.Bodied phases.Opening true (ap (λ (o : StoreSeen g.row.D.Denot). o.phase) c.self.view_is ∙ c.requires.phase) refl refl refl refl
+    (phase_sound g.D.Device.disk (seen_of c.self.inside) c.open_gate-opened.new.device c.open_gate-opened.ensures.one_call.same_honesty c.self.invariant (ap (λ (o : StoreSeen g.row.D.Denot). o.broken) c.self.view_is ∙ c.requires.whole) phases.Bodied phases.Opening true (ap (λ (o : StoreSeen g.row.D.Denot). o.phase) c.self.view_is ∙ c.requires.phase) refl refl refl refl tt
     (λ honest. gate_torn g.D.Device.disk (seen_of c.self.inside) c.open_gate-opened.new.device (ap (λ (o : StoreSeen g.row.D.Denot). o.broken) c.self.view_is ∙ c.requires.whole) (g.met.D.Device.lawful c.self.inside.active) (g.met.D.Device.lawful c.self.inside.spare) (c.open_gate-opened.ensures.images honest)))
 
 pub returns-in-Ok : goal.returns-in-Ok

@@ -1,19 +1,19 @@
-use Rattle.std.proofs.Common.{◌∙◌, length, ℕ, refl, sym, ap, subst, Ok, true}
+use Rattle.std.proofs.Common.{◌∙◌, length, List, ℕ, sym, ap, subst, Ok, true}
 use Rattle.vault_store.specs.declared.phase.Phase.TheVariants as phases
 use Rattle.vault_store.specs.declared.phase.Advanced.TheVariants as answers
 use Rattle.vault_store.specs.Seen.{StoreSeen}
 use Rattle.vault_store.specs.View.{seen_of}
 use Rattle.vault_store.specs.Step.{IsAdvance}
-use Rattle.vault_store.proofs.RenewalRows.{shut_settled, shut_unsettled, bare_in}
+use Rattle.vault_store.proofs.Renewed.{shut_settled, shut_unsettled}
 use Rattle.vault_store.proofs.Failed.{failed_by}
 use Rattle.vault_store.proofs.store.Store.settle_closed.Goals as goal
 
 pub returns-in-Ok : goal.returns-in-Ok
 returns-in-Ok g c =
-    subst (λ (n : ℕ). IsAdvance g.D.Device.disk c.args.self.now (record (seen_of c.self.inside) { spare = c.settle_gate.new.device; phase = phases.Writing n }) (Ok answers.Moved)) (sym c.len.ensures)
+    subst (λ (l : List ℕ). IsAdvance g.D.Device.disk c.args.self.now (record (seen_of c.self.inside) { spare = c.settle_gate.new.device; phase = phases.Writing (length l) }) (Ok answers.Moved)) (sym c.bytes_of.ensures)
     (subst (λ (o : StoreSeen g.row.D.Denot). IsAdvance g.D.Device.disk o (record (seen_of c.self.inside) { spare = c.settle_gate.new.device; phase = phases.Writing (length (seen_of c.self.inside).rest) }) (Ok answers.Moved)) c.self.view_is
     (shut_settled g.D.Device.disk (seen_of c.self.inside) c.settle_gate.new.device (ap (λ (o : StoreSeen g.row.D.Denot). o.broken) c.self.view_is ∙ c.requires.whole) (g.met.D.Device.lawful c.self.inside.active) (g.met.D.Device.lawful c.self.inside.spare)
-    (ap (λ (o : StoreSeen g.row.D.Denot). o.phase) c.self.view_is ∙ c.requires.phase) (bare_in g.D.Device.disk (seen_of c.self.inside) c.self.invariant phases.Closing (ap (λ (o : StoreSeen g.row.D.Denot). o.phase) c.self.view_is ∙ c.requires.phase) refl refl) c.in-Ok.ensures.one_call c.in-Ok.ensures.sync c.in-Ok.ensures.moments))
+    (ap (λ (o : StoreSeen g.row.D.Denot). o.phase) c.self.view_is ∙ c.requires.phase) c.in-Ok.ensures.one_call c.in-Ok.ensures.sync c.in-Ok.ensures.moments))
 
 pub returns-in-Err : goal.returns-in-Err
 returns-in-Err g c =

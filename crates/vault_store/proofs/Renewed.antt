@@ -17,16 +17,12 @@ use Rattle.vault_store.specs.Phases.{is_idle, is_snapshot, may_open, most_piece,
 use Rattle.vault_store.specs.State.{StoreState}
 use Rattle.vault_store.specs.Spares.{ClosedMayStand, HasFirst, IsAside, IsFilling, IsSpareIn, IsSpareOn}
 use Rattle.vault_store.specs.Seen.{StoreSeen, of_file, first_of, second_of, Keeps, IsLeftInside}
-use Rattle.vault_store.specs.Sound.{IsReached, IsBounded, IsActive, IsSoundStore, is_bare}
+use Rattle.vault_store.specs.Sound.{IsReached, IsBounded, IsActive, IsSoundStore}
 use Rattle.vault_store.specs.Companions.{MayPrecede, IsOfOneVault}
 use Rattle.vault_store.specs.TwoVaults.{AreOfTwoVaults}
 use Rattle.vault_store.specs.Step.{renews, gained, IsAtMostOneCall, IsStep, AreNumbers, MayBeLeft, IsAdvance}
 use Rattle.vault_store.proofs.Advances.{at_phase, moved_on, failed_on, none_called}
-use Rattle.vault_store.proofs.Asides.{closed_spare, spare_leaves}
-use Rattle.vault_store.specs.declared.phase.Renewal.TheVariants as renewals
-use Rattle.vault_store.specs.Beside.{spare_phase}
-use Rattle.vault_store.proofs.Besides.{alone_is, snapshot_renews}
-use Rattle.vault_store.proofs.NewFiles.{bare_length}
+use Rattle.vault_store.proofs.Asides.{closed_spare, spare_leaves, length-behind}
 use Rattle.vault_store.proofs.Companions.{shut_precedes, beside_pass, one_in}
 use Rattle.vault_store.proofs.Passes.{two_exchanged, renewed_pass}
 use Rattle.vault_store.proofs.Left.{inside_front, inside_renewed}
@@ -65,13 +61,6 @@ IsSpareMove MayStand old new p q broken shut rest = IsSpareIn MayStand old p shu
 abbrev pub IsAnyMove : Disk → Disk → Phase → Phase → Bool → Bool → List ℕ → Type 1
 IsAnyMove old new p q broken shut rest = (MayStand : List ℕ → Type 0) → ClosedMayStand MayStand → IsSpareMove MayStand old new p q broken shut rest
 
--- what is said of the spare of a snapshot that stands alone
-pub of_column : {D : Type 0} (old : StoreSeen D) (MayStand : List ℕ → Type 0) (d : Disk) (p : Phase) → old.beside ≡ renewals.Nothing → IsSpareOn MayStand d (spare_phase p old.beside) false old.shut old.rest → IsSpareIn MayStand d p old.shut old.rest
-of_column old MayStand d p alone on = subst (λ (q : Phase). IsSpareOn MayStand d q false old.shut old.rest) (alone_is old.beside p alone) on
-
-pub in_column : {D : Type 0} (old : StoreSeen D) (MayStand : List ℕ → Type 0) (d : Disk) (q : Phase) (broken : Bool) → old.beside ≡ renewals.Nothing → IsSpareOn MayStand d q broken old.shut old.rest → IsSpareOn MayStand d (spare_phase q old.beside) broken old.shut old.rest
-in_column old MayStand d q broken alone on = subst (λ (r : Phase). IsSpareOn MayStand d r broken old.shut old.rest) (sym (alone_is old.beside q alone)) on
-
 module _ {D : Type 0} (disk : D → Disk) (old : StoreSeen D) (spare : D) (same : (disk spare).honest ≡ (disk old.spare).honest) where
   was_honest : IsTrue (disk spare).honest → IsTrue (disk old.spare).honest
   was_honest honest = subst IsTrue same honest
@@ -90,28 +79,20 @@ module _ {D : Type 0} (disk : D → Disk) (old : StoreSeen D) (spare : D) (same 
     sealed = keeps.sealed;
     buffer = keeps.buffer;
     noted = keeps.noted;
-    frozen = keeps.frozen;
-    since = keeps.since;
-    alone = λ snapshot. keeps.alone of_p;
-    renewal = λ is. keeps.renewal (snapshot_renews p old.beside of_p);
-    all = λ snapshot. keeps.all of_p;
-    part = keeps.part;
-    within = keeps.within;
-    whole = λ is both. keeps.whole (snapshot_renews p old.beside of_p) (both.0, was_honest both.1);
+    renewal = λ snapshot. keeps.renewal of_p;
     files = λ one two.
         let files = keeps.files one (was_honest two) in record {
           front = files.front;
           is_front = files.is_front;
           active = idle_in (disk old.active) files.front (records_of s.sealing) q broken of_q (idle_of (disk old.active) files.front (records_of s.sealing) p of_p files.active);
-          spare = in_column old (IsSpare old.generation) (disk spare) q broken (keeps.alone of_p) (move (was_honest two) (of_column old (IsSpare old.generation) (disk old.spare) p (keeps.alone of_p) files.spare));
-          follows = files.follows;
+          spare = move (was_honest two) files.spare;
         };
   }
 
-  pub spare_sound : IsSoundStore disk old → old.broken ≡ false → (p q : Phase) (broken : Bool) → old.phase ≡ p → is_snapshot p ≡ true → is_snapshot q ≡ true → IsReached q old.generation old.rest → (is_bare q ≡ true → is_bare p ≡ true)
+  pub spare_sound : IsSoundStore disk old → old.broken ≡ false → (p q : Phase) (broken : Bool) → old.phase ≡ p → is_snapshot p ≡ true → is_snapshot q ≡ true → IsReached q old.generation old.rest
       → (IsTrue (disk old.spare).honest → IsSpareMove (λ x. Unit {0}) (disk old.spare) (disk spare) p q broken old.shut old.rest) → IsSoundStore disk (record old { spare = spare; phase = q; broken = broken })
-  spare_sound sound unbroken p q broken is of_p of_q reached barer move = record {
-    reached = subst (λ (r : Phase). IsReached r old.generation old.rest) (sym (alone_is old.beside q alone)) reached;
+  spare_sound sound unbroken p q broken is of_p of_q reached move = record {
+    reached = reached;
     sealed_fits = sound.sealed_fits;
     bounded = bounded_snapshot q (length old.buffer) old.tail of_q;
     inside = sound.inside;
@@ -126,19 +107,10 @@ module _ {D : Type 0} (disk : D → Disk) (old : StoreSeen D) (spare : D) (same 
           on_disk = idle_in (disk old.active) was.front was.records q broken of_q (idle_of (disk old.active) was.front was.records p of_p was.on_disk);
         };
     spare = λ honest.
-        in_column old (λ x. Unit {0}) (disk spare) q broken alone (move (was_honest honest)
+        move (was_honest honest)
         (subst (λ (r : Phase). IsSpareIn (λ x. Unit {0}) (disk old.spare) r old.shut old.rest) is
-        (of_column old (λ x. Unit {0}) (disk old.spare) old.phase alone (subst (λ (b : Bool). IsSpareOn (λ x. Unit {0}) (disk old.spare) (spare_phase old.phase old.beside) b old.shut old.rest) unbroken (sound.spare (was_honest honest))))));
-    alone = λ snapshot. alone;
-    bare = λ b. sound.bare (ap is_bare (alone_is old.beside old.phase alone ∙ is) ∙ barer (sym (ap is_bare (alone_is old.beside q alone)) ∙ b));
-    few = sound.few;
-    behind = sound.behind;
-    holds = sound.holds;
-    laned = sound.laned;
+        (subst (λ (b : Bool). IsSpareOn (λ x. Unit {0}) (disk old.spare) old.phase b old.shut old.rest) unbroken (sound.spare (was_honest honest))));
   }
-    where
-      alone : old.beside ≡ renewals.Nothing
-      alone = sound.alone (ap is_snapshot is ∙ of_p)
 
 -- what a crash inside a step that makes this of the spare's device leaves is read
 abbrev pub AreSpareMoments : {D : Type 0} → (D → Disk) → StoreSeen D → D → StoreState → List ℕ → List ℕ → Type 0
@@ -177,14 +149,12 @@ module _ {D : Type 0} (disk : D → Disk) (old : StoreSeen D) (spare : D) (p : P
         subst (λ (t : StoreState). IsLeftInside old t v w) (snap_phase s keeps)
         (inside_front disk old (record s { phase = p; broken = false }) here files.front files.is_front v w
         (idle_leaves (disk old.active) files.front (records_of s.sealing) (idle_of (disk old.active) files.front (records_of s.sealing) p of_p files.active) v ((lawful one).only_now v may.0))
-        (move two (IsSpare old.generation) (closed_spare old.generation) w (of_column old (IsSpare old.generation) (disk old.spare) p (here.alone of_p) files.spare) may.1))) x y;
+        (move two (IsSpare old.generation) (closed_spare old.generation) w files.spare may.1))) x y;
     passes = λ s x y keeps one_vault.
         moments_placed disk old.which old.active old.spare old.active spare (λ v w. AreOfTwoVaults v w → ⊥) (λ v w pass two. pass (two_exchanged w v two))
         (λ v w one two may.
         let are = one_in disk old p false is unbroken one_vault one two in
-        let image = (lawful one).only_now v may.0 in
-        beside_pass v w old.generation are.least (record { head = are.headed v image; leads = λ vault leads. are.leads v vault image leads })
-        (move two (MayPrecede old.generation are.least) (shut_precedes old.generation are.least) w (of_column old (MayPrecede old.generation are.least) (disk old.spare) p ((snap_keeps s keeps).alone of_p) are.beside) may.1)) x y;
+        beside_pass v w old.generation are.base (are.based v ((lawful one).only_now v may.0)) (move two (MayPrecede old.generation are.base) (shut_precedes old.generation are.base) w are.beside may.1)) x y;
   }
 
   -- a crash that leaves the head gate open or closed over the whole file
@@ -197,27 +167,26 @@ module _ {D : Type 0} (disk : D → Disk) (old : StoreSeen D) (spare : D) (p : P
         let here = snap_keeps s keeps in
         let files = here.files one two in
         subst (λ (t : StoreState). IsLeftInside old t v w) (snap_phase s keeps)
-        (inside_renewed disk old (record s { phase = p; broken = false }) here files.front files.is_front v w of_p opens (one, two)
-        (idle_leaves (disk old.active) files.front (records_of s.sealing) (idle_of (disk old.active) files.front (records_of s.sealing) p of_p files.active) v ((lawful one).only_now v may.0)) (move two w (of_column old (IsSpare old.generation) (disk old.spare) p (here.alone of_p) files.spare) may.1))) x y;
+        (inside_renewed disk old (record s { phase = p; broken = false }) here files.front files.is_front v w of_p opens
+        (idle_leaves (disk old.active) files.front (records_of s.sealing) (idle_of (disk old.active) files.front (records_of s.sealing) p of_p files.active) v ((lawful one).only_now v may.0)) (move two w files.spare may.1))) x y;
     passes = λ s x y keeps one_vault.
         moments_placed disk old.which old.active old.spare old.active spare (λ v w. AreOfTwoVaults v w → ⊥) (λ v w pass two. pass (two_exchanged w v two))
         (λ v w one two may.
         let here = snap_keeps s keeps in
         let files = here.files one two in
         renewed_pass disk old (record s { phase = p; broken = false }) files.front v w files.is_front
-        (idle_leaves (disk old.active) files.front (records_of s.sealing) (idle_of (disk old.active) files.front (records_of s.sealing) p of_p files.active) v ((lawful one).only_now v may.0)) here of_p (one, two) (move two w (of_column old (IsSpare old.generation) (disk old.spare) p (here.alone of_p) files.spare) may.1)) x y;
+        (idle_leaves (disk old.active) files.front (records_of s.sealing) (idle_of (disk old.active) files.front (records_of s.sealing) p of_p files.active) v ((lawful one).only_now v may.0)) here of_p (move two w files.spare may.1)) x y;
   }
 
   -- a step of the spare's keeps files of one vault so
   pub spare_one : (disk spare).honest ≡ (disk old.spare).honest → (q : Phase) (broken : Bool) → (IsTrue (disk old.spare).honest → IsAnyMove (disk old.spare) (disk spare) p q broken old.shut old.rest)
-      → old.beside ≡ renewals.Nothing → IsOfOneVault disk old → IsOfOneVault disk (record old { spare = spare; phase = q; broken = broken })
-  spare_one same q broken move alone one_vault one two =
+      → IsOfOneVault disk old → IsOfOneVault disk (record old { spare = spare; phase = q; broken = broken })
+  spare_one same q broken move one_vault one two =
       let was = subst IsTrue same two in
       let are = one_in disk old p false is unbroken one_vault one was in record {
-        least = are.least;
-        headed = are.headed;
-        leads = are.leads;
-        beside = in_column old (MayPrecede old.generation are.least) (disk spare) q broken alone (move was (MayPrecede old.generation are.least) (shut_precedes old.generation are.least) (of_column old (MayPrecede old.generation are.least) (disk old.spare) p alone are.beside));
+        base = are.base;
+        based = are.based;
+        beside = move was (MayPrecede old.generation are.base) (shut_precedes old.generation are.base) are.beside;
       }
 
   -- the numbers of a step that isn't the last
@@ -242,7 +211,7 @@ module _ {D : Type 0} (disk : D → Disk) (old : StoreSeen D) (spare : D) (p : P
     rests = λ idle. absurd (moved idle);
     calls = calls_placed disk old.which old.active old.spare old.active spare result call;
     moments = inside.moments;
-    one_vault = λ s keeps. spare_one same q broken move ((snap_keeps s keeps).alone of_p);
+    one_vault = λ s keeps. spare_one same q broken move;
     passes = inside.passes;
   }
 
@@ -283,7 +252,7 @@ module _ {D : Type 0} (disk : D → Disk) (old : StoreSeen D) (spare : D) (unbro
   pub head_half_closed : (fault : Fault) → old.shut ≡ false → IsWrite 0 (0 ∷ []) (Err fault) (disk old.spare) (disk spare) → IsAnyMove (disk old.spare) (disk spare) Start Closing true old.shut old.rest
   head_half_closed fault unshut wrote MayStand closed aside = λ x image. shut_torn MayStand (disk old.spare) (disk spare) (aside_open MayStand unshut aside) x (wrote.images x image)
 
-  pub closing_inside : {E : Type 0} (made : Result (Unit {0}) E) → old.shut ≡ false → (IsTrue (disk old.spare).honest → IsWrite 0 (0 ∷ []) made (disk old.spare) (disk spare))
+  closing_inside : {E : Type 0} (made : Result (Unit {0}) E) → old.shut ≡ false → (IsTrue (disk old.spare).honest → IsWrite 0 (0 ∷ []) made (disk old.spare) (disk spare))
       → IsTrue (disk old.spare).honest → LeavesStanding (disk old.spare) (disk spare) Start old.shut old.rest
   closing_inside made unshut wrote honest MayStand closed y aside was =
       (one_call (disk old.spare) (disk spare) _ MayStand (lawful_spare honest) (wrote honest).time
@@ -314,12 +283,12 @@ module _ {D : Type 0} (disk : D → Disk) (old : StoreSeen D) (spare : D) (unbro
       none : 0 ≡ length old.rest - length old.rest
       none = omega arith
 
-  pub shut_settled : old.phase ≡ Closing → old.copied ≡ 0 → IsOneCall {A = Unit {0}} {E = Fault} (disk old.spare) (disk spare) (Ok tt) → (IsTrue (disk old.spare).honest → IsSync {E = Fault} (Ok tt) (disk old.spare) (disk spare))
+  pub shut_settled : old.phase ≡ Closing → IsOneCall {A = Unit {0}} {E = Fault} (disk old.spare) (disk spare) (Ok tt) → (IsTrue (disk old.spare).honest → IsSync {E = Fault} (Ok tt) (disk old.spare) (disk spare))
       → (IsTrue (disk old.spare).honest → LeavesSince (disk old.spare) (disk spare) (disk old.spare).IsImage) → IsAdvance disk old (record old { spare = spare; phase = Writing (length old.rest) }) (Ok answers.Moved)
-  shut_settled is none call sync moments =
+  shut_settled is call sync moments =
       moved Closing (Writing (length old.rest)) is refl call (λ honest. settles_shut (sync honest))
       (λ s move keeps.
-      let size : length old.rest ≡ header + length (snapshot_of s.sealed) = bare_length disk old (record s { phase = Closing; broken = false }) keeps refl none in (
+      let size : length old.rest ≡ header + length (snapshot_of s.sealed) = let r = keeps.renewal refl in ap length r.bytes ∙ length-behind (old.generation + 1) s.sealed in (
         refl,
         subst (λ (n : ℕ). Keeps disk (record old { spare = spare; phase = Writing n; broken = false }) (record s { phase = Writing (header + length (snapshot_of s.sealed)); broken = false })) (sym size)
             (spare_kept disk old spare call.same_honesty s Closing (Writing (header + length (snapshot_of s.sealed))) false refl refl
@@ -328,7 +297,7 @@ module _ {D : Type 0} (disk : D → Disk) (old : StoreSeen D) (spare : D) (unbro
       (leaves_spare disk old spare Closing is refl unbroken lawful (λ honest MayStand closed y shutting was. shutting.images y ((moments honest).each y was)))
 
   -- a sync that failed: no more is left than before
-  pub unsettled : (fault : Fault) (p : Phase) → IsSync (Err fault) (disk old.spare) (disk spare) → IsAnyMove (disk old.spare) (disk spare) p p true old.shut old.rest
+  unsettled : (fault : Fault) (p : Phase) → IsSync (Err fault) (disk old.spare) (disk spare) → IsAnyMove (disk old.spare) (disk spare) p p true old.shut old.rest
   unsettled fault p sync MayStand closed is = leaves_less MayStand (disk old.spare) (disk spare) old.rest p sync.images (spare_leaves MayStand (disk old.spare) old.shut old.rest closed p false is)
 
   still_there : (fault : Fault) (p : Phase) → old.phase ≡ p → is_snapshot p ≡ true → IsOneCall {A = Unit {0}} (disk old.spare) (disk spare) (Err fault) → (IsTrue (disk old.spare).honest → IsSync (Err fault) (disk old.spare) (disk spare))
@@ -362,7 +331,7 @@ module _ {D : Type 0} (disk : D → Disk) (old : StoreSeen D) (spare : D) (unbro
     pub piece_half_written : (fault : Fault) → IsWrite (length old.rest - left + 1) piece (Err fault) (disk old.spare) (disk spare) → IsAnyMove (disk old.spare) (disk spare) (Writing left) (behind_piece left) true old.shut old.rest
     piece_half_written fault wrote MayStand closed filling = piece_leaves MayStand (disk spare) old.rest left (λ x image. closed x (closed_behind (length piece) filling x (wrote.images x image)))
 
-    pub writing_inside : {E : Type 0} (made : Result (Unit {0}) E) → (IsTrue (disk old.spare).honest → IsWrite (length old.rest - left + 1) piece made (disk old.spare) (disk spare))
+    writing_inside : {E : Type 0} (made : Result (Unit {0}) E) → (IsTrue (disk old.spare).honest → IsWrite (length old.rest - left + 1) piece made (disk old.spare) (disk spare))
         → IsTrue (disk old.spare).honest → LeavesStanding (disk old.spare) (disk spare) (Writing left) old.shut old.rest
     writing_inside made wrote honest MayStand closed y filling was =
         (one_call (disk old.spare) (disk spare) _ MayStand (lawful_spare honest) (wrote honest).time (λ x image. closed x (filling.closed x image)) (λ x torn. closed x (closed_behind (length piece) filling x torn))).each y was
@@ -456,15 +425,3 @@ head_shut disk old unbroken is shut lawful lawful_spare =
     (λ s move keeps. (refl, spare_kept disk old old.spare refl s Start Closing false refl refl move keeps))
     (leaves_spare disk old old.spare Start is refl unbroken lawful
     (λ honest MayStand closed y aside was. spare_leaves MayStand (disk old.spare) old.shut old.rest closed Start false aside y ((lawful_spare honest).only_now y was))))
-
--- only a snapshot that isn't written is bare
-pub barer_piece : (left : ℕ) → is_bare (behind_piece left) ≡ true → is_bare (Writing left) ≡ true
-barer_piece left is = refl
-
--- a snapshot that stands alone and isn't written has no frames
-pub bare_in : {D : Type 0} (disk : D → Disk) (old : StoreSeen D) → IsSoundStore disk old → (p : Phase) → old.phase ≡ p → is_snapshot p ≡ true → is_bare p ≡ true → old.copied ≡ 0
-bare_in disk old sound p is of_p bare = sound.bare (ap is_bare (alone_is old.beside old.phase (sound.alone (ap is_snapshot is ∙ of_p)) ∙ is) ∙ bare)
-
--- and what is said of its bytes
-pub reached_in : {D : Type 0} (disk : D → Disk) (old : StoreSeen D) → IsSoundStore disk old → (p : Phase) → old.phase ≡ p → is_snapshot p ≡ true → IsReached p old.generation old.rest
-reached_in disk old sound p is of_p = subst (λ (r : Phase). IsReached r old.generation old.rest) (alone_is old.beside old.phase (sound.alone (ap is_snapshot is ∙ of_p)) ∙ is) sound.reached
