@@ -10,6 +10,7 @@ import unittest
 from pathlib import Path
 from typing import Tuple
 
+from busy_vault import DESIGNERS
 from page_server import PageServer, until
 from with_page import CHECK, PICTURES, PISTON, WithOffice
 
@@ -99,15 +100,30 @@ class Kinds(WithOffice):
 class Browsing(WithOffice):
     """What somebody sees first, and finds again."""
 
-    def test_the_first_screen(self) -> None:
-        """Without scrolling it shows who is in whose way: a claim, and who waits for it, in both sizes."""
-        self.fill()
+    def see_who_waits(self) -> None:
+        """Without scrolling the first screen shows who is in whose way: a claim, and who waits for it, in both sizes."""
         self.open("/")
         for width, height in ((1280, 800), (390, 844)):
             self.browser.show(width, height)
             for selector in ("#blockers > li > .who", "#blockers > li .stopped > li > .who"):
                 bottom = self.browser.value(f"document.querySelector({json.dumps(selector)}).getBoundingClientRect().bottom")
                 self.assertLess(bottom, height, (selector, width))
+
+    def test_a_large_vault(self) -> None:
+        """So it is in a vault of forty projects and two thousand parts, with sixty check-outs of twelve designers, of which twenty wait."""
+        for project in range(40):
+            self.office.say("anna", f"make /p{project}", f"make /p{project}/a", *(f"make /p{project}/a/part{part}" for part in range(50)))
+        for claim in range(60):
+            told, = self.office.say(DESIGNERS[claim % 12], f"checkout w:/p{claim}/a" if claim < 40 else f"checkout w:/p{claim - 40}/a/part7")
+            self.assertEqual(told.words[0], "held" if claim < 40 else "queued")
+        self.see_who_waits()
+        self.shows("#tally", "20 waiting", 10)
+        self.assertEqual(self.browser.value(CHECK), [])
+
+    def test_the_first_screen(self) -> None:
+        """It shows who waits for whom, and in each width nothing leaves its card."""
+        self.fill()
+        self.see_who_waits()
         for width in (960, 1024):
             for path in ("/", PISTON, "/designers", "/gripper/base/flange"):
                 self.browser.show(width, 800)
