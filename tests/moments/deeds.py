@@ -181,8 +181,9 @@ def stop_server(tried: Try) -> str:
 
 
 def start_server(tried: Try) -> None:
-    """The server is back."""
-    tried.world.server.start()
+    """The server is back. A command may have ended before the moment, and then it was never away."""
+    if tried.world.server.process is None:
+        tried.world.server.start()
 
 
 def save_behind(save: Callable[[Try], str]) -> Callable[[Try], None]:
